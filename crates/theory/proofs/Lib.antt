@@ -1,0 +1,3 @@
+-- The laws of the theory.
+pub mod Ring
+pub mod Sums
