@@ -56,3 +56,22 @@ module _ (F : Field) where
   one-mul x = mul-comm 𝟙 x ∙ mul-one x
 
   pub ruleset ring = (add-assoc, add-comm, add-left-comm, add-zero, zero-add, add-self, add-cancel, mul-assoc, mul-comm, mul-left-comm, mul-one, one-mul, mul-zero, zero-mul, mul-add, add-mul)
+
+  -- equations: what is zero, what is equal
+  pub equal→zero : {x y : K} → x ≡ y → x ⊕ y ≡ 𝟘
+  equal→zero {x} {y} h = ap (λ w. w ⊕ y) h ∙ add-self y
+
+  pub zero→equal : {x y : K} → x ⊕ y ≡ 𝟘 → x ≡ y
+  zero→equal {x} {y} h = simp ring at (ap (λ w. w ⊕ y) h)
+
+  pub mul-inverse-left : (x y : K) → (x ≡ 𝟘 → ⊥) → inverse x ⊗ (x ⊗ y) ≡ y
+  mul-inverse-left x y h = sym (mul-assoc (inverse x) x y) ∙ ap (λ w. w ⊗ y) (mul-comm (inverse x) x ∙ F .mul-inverse x h) ∙ one-mul y
+
+  pub mul-inverse-right : (x y : K) → (x ≡ 𝟘 → ⊥) → x ⊗ (inverse x ⊗ y) ≡ y
+  mul-inverse-right x y h = mul-left-comm x (inverse x) y ∙ mul-inverse-left x y h
+
+  pub factor-zero : {x y : K} → (x ≡ 𝟘 → ⊥) → x ⊗ y ≡ 𝟘 → y ≡ 𝟘
+  factor-zero {x} {y} h e = sym (mul-inverse-left x y h) ∙ ap (λ w. inverse x ⊗ w) e ∙ mul-zero (inverse x)
+
+  pub add-cancel-right : {x y : K} (z : K) → x ⊕ z ≡ y ⊕ z → x ≡ y
+  add-cancel-right {x} {y} z h = simp ring at (ap (λ w. w ⊕ z) h)

@@ -5,6 +5,7 @@
 --   m      == the number of groups; so the nodes are m * s, phantoms included, and the rows s ^ m
 --   point  == the point of a node
 --   γ      == the factor of the weight's third case
+--   Stripe c == the symbol of a node at a row; plus and scaled are the sum of two and a multiple of one
 --   Lawful == there is a place, the points of all m * s nodes differ, and γ is neither 0 nor 1
 use Prim.Native.Nat.{ℕ, _*_, _^_, _<_}
 use mathlib.Core.Path.{_≡_}
@@ -23,9 +24,14 @@ nodes c = c .m * c .s
 abbrev pub rows : Code → ℕ
 rows c = c .s ^ c .m
 
--- a stripe: the symbol of a node at a row
 abbrev pub Stripe : Code → Type 0
 Stripe c = ℕ → ℕ → c .field .K
+
+abbrev pub plus : (c : Code) → Stripe c → Stripe c → Stripe c
+plus c C D i a = c .field .add (C i a) (D i a)
+
+abbrev pub scaled : (c : Code) → c .field .K → Stripe c → Stripe c
+scaled c z C i a = c .field .mul z (C i a)
 
 pub record Lawful (c : Code) : Type 0 where
   pub some-place : 0 < c .s

@@ -1,0 +1,75 @@
+-- Laws of powers and of the sums of powers times unknowns. In order: clauses of powers, a power of a sum of exponents; moments: extensionality,
+-- of sums and of multiples, one point taken out of all.
+use mathlib.Core.Path.{_≡_, refl, sym, ap, _∙_}
+use Prim.Native.Nat.{ℕ, zero, suc, _+_, _<_}
+use native.Mathlib.Nat.{add-zero, add-suc}
+use Rattle.theory.specs.Field.{Field}
+use Rattle.theory.specs.Sum.{sum}
+use Rattle.theory.specs.Power.{power, moment}
+use Rattle.theory.proofs.Ring.{ring}
+use Rattle.theory.proofs.Sums.{sum-zero, sum-suc, sum-ext, sum-none, sum-add, sum-scale}
+
+module _ (F : Field) where
+  open Field F using (K, zero as 𝟘, one as 𝟙, add as _⊕_, mul as _⊗_)
+
+  infixl 60 _⊕_
+  infixl 70 _⊗_
+  pub power-zero : (x : K) → power F x 0 ≡ 𝟙
+  unfolding power
+  power-zero x = refl
+
+  pub power-suc : (x : K) (t : ℕ) → power F x (suc t) ≡ power F x t ⊗ x
+  unfolding power
+  power-suc x t = refl
+
+  pub power-add : (x : K) (t k : ℕ) → power F x (t + k) ≡ power F x t ⊗ power F x k
+  power-add x t zero = simp (add-zero, power-zero, ring)
+  power-add x t (suc k) = rw (add-suc, power-suc, power-suc, power-add x t k, F .mul-assoc)
+
+  pub power-mul : (x y : K) (t : ℕ) → power F (x ⊗ y) t ≡ power F x t ⊗ power F y t
+  power-mul x y zero = simp (power-zero, ring)
+  power-mul x y (suc t) = simp (power-suc, power-mul x y t, ring)
+
+  pub power-of-one : (t : ℕ) → power F 𝟙 t ≡ 𝟙
+  power-of-one zero = power-zero 𝟙
+  power-of-one (suc t) = simp (power-suc, power-of-one t, ring)
+
+  pub power-of-zero : (t : ℕ) → power F 𝟘 (suc t) ≡ 𝟘
+  power-of-zero t = simp (power-suc, ring)
+
+  pub moment-suc : (n : ℕ) (p x : ℕ → K) (t : ℕ) → moment F (suc n) p x t ≡ moment F n p x t ⊕ power F (p n) t ⊗ x n
+  unfolding moment
+  moment-suc n p x t = sum-suc F n (λ i. power F (p i) t ⊗ x i)
+
+  pub moment-none : (p x : ℕ → K) (t : ℕ) → moment F 0 p x t ≡ 𝟘
+  unfolding moment
+  moment-none p x t = sum-zero F (λ i. power F (p i) t ⊗ x i)
+
+  pub moment-first : (n : ℕ) (p x : ℕ → K) → moment F n p x 0 ≡ sum F n x
+  unfolding moment
+  moment-first n p x = sum-ext F n _ _ (λ i l. simp (power-zero, ring))
+
+  pub moment-ext : (n : ℕ) (p x y : ℕ → K) (t : ℕ) → ((i : ℕ) → i < n → x i ≡ y i) → moment F n p x t ≡ moment F n p y t
+  unfolding moment
+  moment-ext n p x y t h = sum-ext F n _ _ (λ i l. ap (λ w. power F (p i) t ⊗ w) (h i l))
+
+  pub moment-zero : (n : ℕ) (p x : ℕ → K) (t : ℕ) → ((i : ℕ) → i < n → x i ≡ 𝟘) → moment F n p x t ≡ 𝟘
+  unfolding moment
+  moment-zero n p x t h = sum-none F n _ (λ i l. simp (h i l, ring))
+
+  pub moment-add : (n : ℕ) (p x y : ℕ → K) (t : ℕ) → moment F n p (λ i. x i ⊕ y i) t ≡ moment F n p x t ⊕ moment F n p y t
+  unfolding moment
+  moment-add n p x y t = sum-ext F n _ _ (λ i l. simp ring) ∙ sum-add F n (λ i. power F (p i) t ⊗ x i) (λ i. power F (p i) t ⊗ y i)
+
+  pub moment-scale : (n : ℕ) (p : ℕ → K) (z : K) (x : ℕ → K) (t : ℕ) → moment F n p (λ i. z ⊗ x i) t ≡ z ⊗ moment F n p x t
+  unfolding moment
+  moment-scale n p z x t = sum-ext F n _ _ (λ i l. simp ring) ∙ sum-scale F n z (λ i. power F (p i) t ⊗ x i)
+
+  -- the step of Vandermonde: unknowns times the difference of their points from q
+  pub moment-shift : (n : ℕ) (p : ℕ → K) (q : K) (x : ℕ → K) (t : ℕ)
+      → moment F n p (λ i. (p i ⊕ q) ⊗ x i) t ≡ moment F n p x (suc t) ⊕ q ⊗ moment F n p x t
+  moment-shift zero p q x t = simp (moment-none, ring)
+  moment-shift (suc n) p q x t =
+      moment-suc n p (λ i. (p i ⊕ q) ⊗ x i) t
+      ∙ ap (λ w. w ⊕ power F (p n) t ⊗ ((p n ⊕ q) ⊗ x n)) (moment-shift n p q x t)
+      ∙ simp (moment-suc, power-suc, ring)

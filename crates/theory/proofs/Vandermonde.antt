@@ -1,0 +1,178 @@
+-- Vandermonde on any set of places: k equations settle the unknowns on at most k places, and on exactly k places every right-hand sides are
+-- reached. The points are only known to differ: 0 may be among them. Both go by induction on the number of places, with a split on whether
+-- the last is in the set: multiplying each unknown by the difference of its point from the last one's takes the last unknown out.
+use mathlib.Core.Path.{_≡_, refl, sym, ap, ap₂, _∙_}
+use mathlib.Core.Bool.{Bool, true, false, cond, true≢false}
+use Prim.Native.Nat.{ℕ, zero, suc, _+_, _<_, _≤_}
+use native.Mathlib.Numerals.{add-one}
+use native.Mathlib.Omega.{arith}
+use lib.Dec.{eqb}
+use borrow.Author.Count.{below-more}
+use borrow.Author.Tests.{eqb-true, eq-eqb, ne-eqb}
+use Rattle.theory.specs.Field.{Field}
+use Rattle.theory.specs.Set.{count, one-if}
+use Rattle.theory.specs.Sum.{sum}
+use Rattle.theory.specs.Power.{power, moment}
+use Rattle.theory.proofs.Ring as R
+use Rattle.theory.proofs.Ring.{ring}
+use Rattle.theory.proofs.Sums.{sum-suc, sum-ext}
+use Rattle.theory.proofs.Powers.{power-zero, moment-first, moment-none, moment-suc, moment-ext, moment-zero, moment-shift}
+
+-- the points of the places below n differ
+abbrev pub Distinct : (F : Field) → (ℕ → F .K) → ℕ → Type 0
+Distinct F p n = (i j : ℕ) → i < n → j < n → p i ≡ p j → i ≡ j
+
+-- x is 0 outside the set L, which has at most k places, and k sums of powers times x are 0
+pub record Vanishes (F : Field) (p : ℕ → F .K) (n k : ℕ) (L : ℕ → Bool) (x : ℕ → F .K) : Type 0 where
+  pub few : count n L ≤ k
+  pub off : (i : ℕ) → i < n → L i ≡ false → x i ≡ F .zero
+  pub sums : (t : ℕ) → t < k → moment F n p x t ≡ F .zero
+
+-- x is 0 outside the set L, and its k sums of powers are b
+pub record Reaches (F : Field) (p : ℕ → F .K) (n k : ℕ) (L : ℕ → Bool) (b x : ℕ → F .K) : Type 0 where
+  pub off : (i : ℕ) → L i ≡ false → x i ≡ F .zero
+  pub sums : (t : ℕ) → t < k → moment F n p x t ≡ b t
+
+module _ (F : Field) (p : ℕ → F .K) where
+  open Field F using (K, zero as 𝟘, add as _⊕_, mul as _⊗_, inverse)
+
+  infixl 60 _⊕_
+  infixl 70 _⊗_
+  fewer : (n : ℕ) → Distinct F p (suc n) → Distinct F p n
+  fewer n d i j hi hj e = d i j (omega arith) (omega arith) e
+
+  apart : (n : ℕ) → Distinct F p (suc n) → (i : ℕ) → i < n → p i ⊕ p n ≡ 𝟘 → ⊥
+  apart n d i l e =
+      let same : i ≡ n = d i n (omega arith) (omega arith) (R.zero→equal F e) in
+      omega arith
+
+  -- the unknowns times the difference of their points from the last one's: the last is out, and each sum is made of two of the old ones
+  last-out : (n : ℕ) (x : ℕ → K) (t : ℕ)
+      → moment F n p (λ i. (p i ⊕ p n) ⊗ x i) t ≡ moment F (suc n) p x (suc t) ⊕ p n ⊗ moment F (suc n) p x t
+  last-out n x t =
+      let y : ℕ → K = λ i. (p i ⊕ p n) ⊗ x i in
+      let gone : power F (p n) t ⊗ y n ≡ 𝟘 = simp ring in
+      sym (moment-suc F n p y t ∙ ap (λ w. moment F n p y t ⊕ w) gone ∙ F .add-zero _) ∙ moment-shift F (suc n) p (p n) x t
+
+  abbrev Only : ℕ → Type 0
+  Only n = (k : ℕ) (L : ℕ → Bool) (x : ℕ → K) → Distinct F p n → Vanishes F p n k L x → (i : ℕ) → i < n → x i ≡ 𝟘
+
+  only-out : (n : ℕ) → Only n → (k : ℕ) (L : ℕ → Bool) (x : ℕ → K) → L n ≡ false → Distinct F p (suc n) → Vanishes F p (suc n) k L x → (i : ℕ) → i < suc n → x i ≡ 𝟘
+  unfolding count
+  only-out n ih k L x out d v =
+      let last : x n ≡ 𝟘 = v .off n (omega arith) out in
+      let rest : Vanishes F p n k L x = record {
+        few = omega (arith, rw out at (v .few));
+        off = λ i l. v .off i (omega arith);
+        sums = λ t l. sym (simp (last, ring) at (moment-suc F n p x t)) ∙ v .sums t l;
+      } in
+      λ i l. below-more _ _ (ih k L x (fewer n d) rest) last i (simp add-one l)
+
+  only-in : (n : ℕ) → Only n → (k : ℕ) (L : ℕ → Bool) (x : ℕ → K) → L n ≡ true → Distinct F p (suc n) → Vanishes F p (suc n) k L x → (i : ℕ) → i < suc n → x i ≡ 𝟘
+  unfolding count
+  only-in n ih zero L x into d v = absurd (omega (arith, rw into at (v .few)))
+  only-in n ih (suc k) L x into d v = λ i l. below-more _ _ low last i (simp add-one l)
+    where
+      -- the last unknown taken out
+      y : ℕ → K
+      y i = (p i ⊕ p n) ⊗ x i
+
+      rest : Vanishes F p n k L y
+      rest = record {
+        few = omega (arith, rw into at (v .few));
+        off = λ i l o. simp (v .off i (omega arith) o, ring);
+        sums = λ t l. last-out n x t ∙ simp (v .sums (suc t) (omega arith), v .sums t (omega arith), ring);
+      }
+
+      low : (i : ℕ) → i < n → x i ≡ 𝟘
+      low i l = R.factor-zero F (apart n d i l) (ih k L y (fewer n d) rest i l)
+
+      last : x n ≡ 𝟘
+      last = sym (moment-suc F n p x 0 ∙ simp (moment-zero F n p x 0 low, power-zero, ring)) ∙ v .sums 0 (omega arith)
+
+  pub vandermonde-only : (n k : ℕ) (L : ℕ → Bool) (x : ℕ → K) → Distinct F p n → Vanishes F p n k L x → (i : ℕ) → i < n → x i ≡ 𝟘
+  vandermonde-only zero k L x d v i l = absurd (omega arith)
+  vandermonde-only (suc n) k L x d v i l = go (L n) refl (vandermonde-only n)
+    where
+      go : (b : Bool) → L n ≡ b → Only n → x i ≡ 𝟘
+      go true e ih = only-in n ih k L x e d v i l
+      go false e ih = only-out n ih k L x e d v i l
+
+  abbrev Reached : ℕ → Type 0
+  Reached n = (k : ℕ) (L : ℕ → Bool) (b : ℕ → K) → Distinct F p n → count n L ≡ k → (x : ℕ → K) × Reaches F p n k L b x
+
+  reached-none : Reached 0
+  unfolding count
+  reached-none k L b d e = (λ i. 𝟘, record { off = λ i o. refl; sums = λ t l. absurd (omega arith) })
+
+  reached-out : (n : ℕ) → Reached n → (k : ℕ) (L : ℕ → Bool) (b : ℕ → K) → L n ≡ false → Distinct F p (suc n) → count (suc n) L ≡ k
+      → (x : ℕ → K) × Reaches F p (suc n) k L b x
+  unfolding count
+  reached-out n ih k L b out d e =
+      let (x, h) = ih k L b (fewer n d) (omega (arith, rw out at e)) in
+      (x, record { off = h .off; sums = λ t l. moment-suc F n p x t ∙ simp (h .off n out, h .sums t l, ring) })
+
+  module _ (n k : ℕ) (L : ℕ → Bool) (b : ℕ → K) (into : L n ≡ true) (d : Distinct F p (suc n)) (y : ℕ → K)
+      (h : Reaches F p n k L (λ t. b (suc t) ⊕ p n ⊗ b t) y) where
+    -- the unknowns before the last, and with the last, which makes the first sum right
+    before : ℕ → K
+    before i = inverse (p i ⊕ p n) ⊗ y i
+
+    extended : ℕ → K
+    extended i = cond (eqb i n) (b 0 ⊕ sum F n before) (before i)
+
+    extended-last : extended n ≡ b 0 ⊕ sum F n before
+    unfolding extended
+    extended-last = rw (eq-eqb n n refl)
+
+    extended-before : (i : ℕ) → i < n → extended i ≡ before i
+    unfolding extended
+    extended-before i l = rw (ne-eqb i n (λ e. omega arith))
+
+    extended-first : moment F (suc n) p extended 0 ≡ b 0
+    extended-first =
+        moment-first F (suc n) p extended ∙ sum-suc F n extended
+        ∙ ap₂ _⊕_ (sum-ext F n extended before extended-before) extended-last ∙ simp ring
+
+    extended-shifted : (t : ℕ) → moment F n p (λ i. (p i ⊕ p n) ⊗ extended i) t ≡ moment F n p y t
+    unfolding before
+    extended-shifted t = moment-ext F n p _ y t (λ i l. ap (λ w. (p i ⊕ p n) ⊗ w) (extended-before i l) ∙ R.mul-inverse-right F _ _ (apart n d i l))
+
+    extended-sums : (t : ℕ) → t < suc k → moment F (suc n) p extended t ≡ b t
+    extended-sums zero l = extended-first
+    extended-sums (suc t) l = go (extended-sums t (omega arith))
+      where
+        go : moment F (suc n) p extended t ≡ b t → moment F (suc n) p extended (suc t) ≡ b (suc t)
+        go ih =
+            R.add-cancel-right F (p n ⊗ b t)
+            (ap (λ w. moment F (suc n) p extended (suc t) ⊕ p n ⊗ w) (sym ih)
+            ∙ sym (last-out n extended t)
+            ∙ extended-shifted t
+            ∙ h .sums t (omega arith))
+
+    extended-off : (i : ℕ) → L i ≡ false → extended i ≡ 𝟘
+    unfolding extended before
+    extended-off i o = go (eqb i n) refl
+      where
+        go : (e : Bool) → eqb i n ≡ e → cond e (b 0 ⊕ sum F n before) (inverse (p i ⊕ p n) ⊗ y i) ≡ 𝟘
+        go true e = absurd (true≢false (sym into ∙ sym (ap L (eqb-true i n e)) ∙ o))
+        go false e = simp (h .off i o, ring)
+
+    extended-reaches : Reaches F p (suc n) (suc k) L b extended
+    extended-reaches = record { off = extended-off; sums = extended-sums }
+
+  reached-in : (n : ℕ) → Reached n → (k : ℕ) (L : ℕ → Bool) (b : ℕ → K) → L n ≡ true → Distinct F p (suc n) → count (suc n) L ≡ k
+      → (x : ℕ → K) × Reaches F p (suc n) k L b x
+  unfolding count
+  reached-in n ih zero L b into d e = absurd (omega (arith, rw into at e))
+  reached-in n ih (suc k) L b into d e =
+      let (y, h) = ih k L (λ t. b (suc t) ⊕ p n ⊗ b t) (fewer n d) (omega (arith, rw into at e)) in
+      (extended n k L b into d y h, extended-reaches n k L b into d y h)
+
+  pub vandermonde-reached : (n k : ℕ) (L : ℕ → Bool) (b : ℕ → K) → Distinct F p n → count n L ≡ k → (x : ℕ → K) × Reaches F p n k L b x
+  vandermonde-reached zero k L b d e = reached-none k L b d e
+  vandermonde-reached (suc n) k L b d e = go (L n) refl (vandermonde-reached n)
+    where
+      go : (e : Bool) → L n ≡ e → Reached n → (x : ℕ → K) × Reaches F p (suc n) k L b x
+      go true into ih = reached-in n ih k L b into d e
+      go false out ih = reached-out n ih k L b out d e
