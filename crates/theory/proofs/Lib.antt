@@ -1,3 +1,4 @@
 -- The laws of the theory.
 pub mod Ring
 pub mod Sums
+pub mod Digits
