@@ -2,3 +2,4 @@
 pub mod Ring
 pub mod Sums
 pub mod Digits
+pub mod Mates
