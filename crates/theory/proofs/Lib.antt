@@ -3,4 +3,7 @@ pub mod Ring
 pub mod Sums
 pub mod Powers
 pub mod Vandermonde
+pub mod Digits
+pub mod Mates
+pub mod Weights
 pub mod Linearity
