@@ -6,4 +6,5 @@ pub mod Vandermonde
 pub mod Digits
 pub mod Mates
 pub mod Weights
+pub mod Shares
 pub mod Linearity

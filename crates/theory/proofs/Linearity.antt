@@ -9,7 +9,7 @@ use Rattle.theory.specs.Sum.{sum}
 use Rattle.theory.specs.Power.{power, moment}
 use Rattle.theory.specs.Digit.{digit, group, place}
 use Rattle.theory.specs.Weight.{weighed, weight, mateNode, mateRow}
-use Rattle.theory.specs.Share.{shared, share}
+use Rattle.theory.specs.Share.{spread, shared, share}
 use Rattle.theory.specs.Whole.{equation, MeetsRow, Whole, AgreeOff, Fills}
 use Rattle.theory.proofs.Ring.{ring, mul-left-comm}
 use Rattle.theory.proofs.Sums.{sum-ext, sum-none, sum-add, sum-scale}
@@ -81,13 +81,13 @@ module _ (c : Code) where
   }
 
   shared-add : (o : Ordering) (t i : ℕ) (x y : ℕ → K) (a : ℕ) → shared c o t i (λ b. x b ⊕ y b) a ≡ shared c o t i x a ⊕ shared c o t i y a
-  unfolding shared
+  unfolding shared spread
   shared-add Ordering·lt t i x y a = simp ring
   shared-add Ordering·eq t i x y a = sum-ext F s _ _ (λ w l. F .mul-add _ _ _) ∙ sum-add F s _ _
   shared-add Ordering·gt t i x y a = simp ring
 
   shared-scaled : (o : Ordering) (t i : ℕ) (z : K) (x : ℕ → K) (a : ℕ) → shared c o t i (λ b. z ⊗ x b) a ≡ z ⊗ shared c o t i x a
-  unfolding shared
+  unfolding shared spread
   shared-scaled Ordering·lt t i z x a = simp ring
   shared-scaled Ordering·eq t i z x a = sum-ext F s _ _ (λ w l. mul-left-comm F _ _ _) ∙ sum-scale F s z _
   shared-scaled Ordering·gt t i z x a = simp ring

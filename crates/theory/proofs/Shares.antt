@@ -1,0 +1,122 @@
+-- Laws of shares. In order: a share as a multiple of the own symbol and, at the row's digit, a spread; a sum over nodes by groups; the shares of
+-- all columns in an equation sum to the weighted sum of all weights; a zero column has zero shares.
+use mathlib.Core.Path.{_≡_, refl, sym, ap, ap₂, _∙_}
+use Prim.Native.Nat.{ℕ, compare, _*_, _<_, Ordering, Ordering·lt, Ordering·eq, Ordering·gt}
+use native.Mathlib.Omega.{arith}
+use Rattle.theory.specs.Field.{Field}
+use Rattle.theory.specs.Sum.{sum}
+use Rattle.theory.specs.Power.{power, moment}
+use Rattle.theory.specs.Code.{Code, Stripe, Lawful, nodes, rows}
+use Rattle.theory.specs.Digit.{digit, withDigit, group, place, node}
+use Rattle.theory.specs.Weight.{weight, mateNode, mateRow}
+use Rattle.theory.specs.Share.{spread, shared, share}
+use Rattle.theory.specs.Whole.{equation}
+use Rattle.theory.proofs.Ring as R
+use Rattle.theory.proofs.Ring.{ring}
+use Rattle.theory.proofs.Sums.{sum-ext, sum-none, sum-one, sum-add, sum-groups}
+use Rattle.theory.proofs.Digits.{digit-lt, group-node, place-node}
+use Rattle.theory.proofs.Mates.{compare→, compare-only}
+use Rattle.theory.proofs.Weights.{side, factor, weight-split}
+
+-- what stands only where the place is the row's digit
+unfoldable at-digit : (c : Code) → Ordering → c .field .K → c .field .K
+at-digit c Ordering·lt x = c .field .zero
+at-digit c Ordering·eq x = x
+at-digit c Ordering·gt x = c .field .zero
+
+module _ (c : Code) (h : Lawful c) where
+  open Code c using (field as F, s, m, point, γ)
+  open Field F using (K, zero as 𝟘, one as 𝟙, add as _⊕_, mul as _⊗_)
+
+  infixl 60 _⊕_
+  infixl 70 _⊗_
+  below : (g p x : K) → g ⊗ p ⊗ x ≡ p ⊗ (g ⊗ x) ⊕ 𝟘
+  below g p x = simp ring
+
+  level : (p x y : K) → y ≡ p ⊗ (𝟘 ⊗ x) ⊕ y
+  level p x y = simp ring
+
+  above : (p x : K) → p ⊗ x ≡ p ⊗ (𝟙 ⊗ x) ⊕ 𝟘
+  above p x = simp ring
+
+  share-split : (t i : ℕ) (x : ℕ → K) (a : ℕ)
+      → share c t i x a ≡ power F (point i) t ⊗ (factor c (side c a i) ⊗ x a) ⊕ at-digit c (side c a i) (spread c t (group s i) x a)
+  unfolding share shared factor at-digit
+  share-split t i x a = go (side c a i)
+    where
+      go : (o : Ordering) → shared c o t i x a ≡ power F (point i) t ⊗ (factor c o ⊗ x a) ⊕ at-digit c o (spread c t (group s i) x a)
+      go Ordering·lt = below γ (power F (point i) t) (x a)
+      go Ordering·eq = level (power F (point i) t) (x a) (spread c t (group s i) x a)
+      go Ordering·gt = above (power F (point i) t) (x a)
+
+  pub sum-nodes : (k : ℕ) (f : ℕ → K) → sum F (k * s) f ≡ sum F k (λ v. sum F s (λ u. f (node s v u)))
+  unfolding node
+  sum-nodes k f = sum-groups F k s f
+
+  -- node u of group v, and its mate, at row a
+  side-node : (a v u : ℕ) → u < s → side c a (node s v u) ≡ compare u (digit s a v)
+  side-node a v u l = simp (place-node s v u l, group-node s v u l)
+
+  mate-node : (a v u : ℕ) → u < s → mateNode s a (node s v u) ≡ node s v (digit s a v)
+  unfolding mateNode
+  mate-node a v u l = simp (group-node s v u l)
+
+  mate-row : (a v u : ℕ) → u < s → mateRow s a (node s v u) ≡ withDigit s a v u
+  unfolding mateRow
+  mate-row a v u l = simp (place-node s v u l, group-node s v u l)
+
+  -- only the node at the row's digit spreads, over the mates of its group
+  group-spread : (t v : ℕ) (C : Stripe c) (a : ℕ)
+      → sum F s (λ u. at-digit c (side c a (node s v u)) (spread c t (group s (node s v u)) (C (node s v u)) a))
+      ≡ sum F s (λ u. power F (point (node s v u)) t ⊗ C (mateNode s a (node s v u)) (mateRow s a (node s v u)))
+  unfolding at-digit spread
+  group-spread t v C a =
+      sum-one F s d _ (digit-lt s (h .some-place) a v) other
+      ∙ rw (side-node a v d dl, compare-only d d Ordering·eq refl, group-node s v d dl)
+      (sum-ext F s _ _ (λ w l. ap (λ x. power F (point (node s v w)) t ⊗ x) (sym (ap₂ C (mate-node a v w l) (mate-row a v w l)))))
+    where
+      d : ℕ
+      d = digit s a v
+
+      dl : d < s
+      dl = digit-lt s (h .some-place) a v
+
+      other : (u : ℕ) → u < s → (u ≡ d → ⊥) → at-digit c (side c a (node s v u)) (spread c t (group s (node s v u)) (C (node s v u)) a) ≡ 𝟘
+      other u l ne = rw (side-node a v u l) (go (compare u d) (λ e. ne (compare→ u d e)))
+        where
+          go : (o : Ordering) → (o ≡ Ordering·eq → ⊥) → at-digit c o (spread c t (group s (node s v u)) (C (node s v u)) a) ≡ 𝟘
+          go Ordering·lt n = refl
+          go Ordering·eq n = absurd (n refl)
+          go Ordering·gt n = refl
+
+  group-shares : (t v : ℕ) (C : Stripe c) (a : ℕ)
+      → sum F s (λ u. share c t (node s v u) (C (node s v u)) a) ≡ sum F s (λ u. power F (point (node s v u)) t ⊗ weight c C a (node s v u))
+  group-shares t v C a =
+      sum-ext F s _ _ (λ u l. share-split t (node s v u) (C (node s v u)) a)
+      ∙ sum-add F s own _
+      ∙ ap (λ w. sum F s own ⊕ w) (group-spread t v C a)
+      ∙ sym (sum-add F s own _)
+      ∙ sum-ext F s _ _ (λ u l. sym (ap (λ w. power F (point (node s v u)) t ⊗ w) (weight-split c h C a (node s v u)) ∙ F .mul-add _ _ _))
+    where
+      own : ℕ → K
+      own u = power F (point (node s v u)) t ⊗ (factor c (side c a (node s v u)) ⊗ C (node s v u) a)
+
+  -- an equation is the sum of the shares of all columns
+  pub equation-shares : (C : Stripe c) (a t : ℕ) → equation c C a t ≡ sum F (nodes c) (λ i. share c t i (C i) a)
+  unfolding equation moment
+  equation-shares C a t =
+      sum-nodes m _
+      ∙ sum-ext F m _ _ (λ v l. sym (group-shares t v C a))
+      ∙ sym (sum-nodes m (λ i. share c t i (C i) a))
+
+  -- a node at the row's digit spreads
+  pub share-own : (t i : ℕ) (x : ℕ → K) (a : ℕ) → side c a i ≡ Ordering·eq → share c t i x a ≡ spread c t (group s i) x a
+  unfolding share shared
+  share-own t i x a e = rw e
+
+  pub share-zero : (t i : ℕ) (x : ℕ → K) (a : ℕ) → a < rows c → i < nodes c → ((b : ℕ) → b < rows c → x b ≡ 𝟘) → share c t i x a ≡ 𝟘
+  unfolding share
+  share-zero t i x a al il z = go (side c a i)
+    where
+      go : (o : Ordering) → shared c o t i x a ≡ 𝟘
+      go o = ?
