@@ -3,3 +3,4 @@ pub mod Ring
 pub mod Sums
 pub mod Digits
 pub mod Mates
+pub mod Counts
