@@ -1,5 +1,5 @@
 -- Laws of counting. In order: clauses; a function changed at one place, a set less one; equal and nested sets, none and all; two sets that differ at
--- one place; a set cut in two; a member and a number outside; lists; a set made bigger.
+-- one place; a full and an empty set; a set cut in two; a member and a number outside; lists; a set made bigger.
 use mathlib.Core.Path.{_≡_, refl, sym, ap, _∙_}
 use mathlib.Core.Logic.{_⊎_, inl, inr}
 use mathlib.Core.Bool.{Bool, true, false, cond, not, _&&_, true≢false, false≢true}
@@ -104,6 +104,13 @@ count-full n L e i l = go (L i) refl
     go true h = refl
     go false h = absurd (omega (arith, count-with n i L l h, count-le n (changed i true L)))
 
+pub count-empty : (n : ℕ) (L : ℕ → Bool) → count n L ≡ 0 → (i : ℕ) → i < n → L i ≡ false
+count-empty n L e i l = go (L i) refl
+  where
+    go : (b : Bool) → L i ≡ b → b ≡ false
+    go true h = absurd (omega (arith, count-remove n i L l h))
+    go false h = refl
+
 pub count-split : (a b : ℕ) (L : ℕ → Bool) → count (a + b) L ≡ count a L + count b (λ i. L (a + i))
 count-split a zero L = simp (add-zero, count-zero)
 count-split a (suc b) L = simp (add-suc, count-suc, count-split a b L) (omega arith)
@@ -156,7 +163,7 @@ lists-count n L zero e l = count-none n L (λ i h. go i h (L i) refl)
 lists-count n L (suc k) e l =
     count-remove n (e k) L (l .below k (omega arith)) (l .inside k (omega arith)) ∙ ap suc (lists-count n (without (e k) L) k e (lists-less n L k e l))
 
--- the list that lists: one more number n, in the set or not
+-- one more number n, out of the set or in it
 lists-skip : (n : ℕ) (L : ℕ → Bool) (k : ℕ) (e : ℕ → ℕ) → L n ≡ false → Lists n L k e → Lists (suc n) L k e
 lists-skip n L k e h l = record {
   below = λ j m. omega (arith, l .below j m);
@@ -181,7 +188,15 @@ lists-more n L k e h l = record {
     go i q (inr m) = let x = l .all i m q in (x .0, omega arith, changed-other k n e (x .0) (omega arith) ∙ x .2)
 
 pub lists : (n : ℕ) (L : ℕ → Bool) → (e : ℕ → ℕ) × Lists n L (count n L) e
-lists zero L = (λ j. j, rw count-zero (record { below = λ j m. m; inside = λ j m. absurd (omega arith); once = λ i j a b q. q; all = λ i m q. absurd (omega arith) }))
+lists zero L = (
+  λ j. j,
+  rw count-zero (record {
+    below = λ j m. m;
+    inside = λ j m. absurd (omega arith);
+    once = λ i j a b q. q;
+    all = λ i m q. absurd (omega arith);
+  }),
+)
 lists (suc n) L = go (L n) refl (lists n L)
   where
     go : (b : Bool) → L n ≡ b → (e : ℕ → ℕ) × Lists n L (count n L) e → (e : ℕ → ℕ) × Lists (suc n) L (count (suc n) L) e

@@ -4,3 +4,4 @@ pub mod Sums
 pub mod Digits
 pub mod Mates
 pub mod Counts
+pub mod Scores
