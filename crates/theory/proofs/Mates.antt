@@ -44,8 +44,8 @@ compare-only x y o h = go (compare x y) o (compare-says x y) h
     go Ordering·gt Ordering·eq h k = absurd (omega arith)
     go Ordering·gt Ordering·gt h k = refl
 
-pub compare→ : (x y : ℕ) {o : Ordering} → compare x y ≡ o → Compared o x y
-compare→ x y e = subst (λ (o : Ordering). Compared o x y) e (compare-says x y)
+pub compare→compared : (x y : ℕ) {o : Ordering} → compare x y ≡ o → Compared o x y
+compare→compared x y e = subst (λ (o : Ordering). Compared o x y) e (compare-says x y)
 
 pub compare-flip : (x y : ℕ) → compare y x ≡ flipped (compare x y)
 compare-flip x y = compare-only y x (flipped (compare x y)) (turned (compare x y) (compare-says x y))

@@ -1,5 +1,6 @@
 -- The score of a row against a set of nodes, and its laws. In order: the definition; the bound; the score changes at the mate's row by the node and its mate.
---   score s m free L a == how many groups v < m that are not free have in L the node that row a's digit names
+--   scored s free L a v == group v is not free and has in L the node that row a's digit names
+--   score s m free L a  == how many groups v < m are scored
 use mathlib.Core.Path.{_≡_, ap}
 use mathlib.Core.Bool.{Bool, false, not, _&&_}
 use Prim.Native.Nat.{ℕ, _+_, _*_, _≤_, _<_}
@@ -10,12 +11,15 @@ use Rattle.theory.proofs.Counts.{count-le, count-change}
 use Rattle.theory.proofs.Digits.{node-split, group-lt}
 use Rattle.theory.proofs.Mates.{mate-digit, mate-other}
 
+abbrev pub scored : ℕ → (ℕ → Bool) → (ℕ → Bool) → ℕ → ℕ → Bool
+scored s free L a v = not (free v) && L (node s v (digit s a v))
+
 unfoldable pub score : ℕ → ℕ → (ℕ → Bool) → (ℕ → Bool) → ℕ → ℕ
-score s m free L a = count m (λ v. not (free v) && L (node s v (digit s a v)))
+score s m free L a = count m (scored s free L a)
 
 pub score-le : (s m : ℕ) (free L : ℕ → Bool) (a : ℕ) → score s m free L a ≤ m
 unfolding score
-score-le s m free L a = count-le m (λ v. not (free v) && L (node s v (digit s a v)))
+score-le s m free L a = count-le m (scored s free L a)
 
 module _ (s : ℕ) (some : 0 < s) where
   pub score-mate : (m : ℕ) (free L : ℕ → Bool) (a i : ℕ) → i < m * s → free (group s i) ≡ false
@@ -23,5 +27,7 @@ module _ (s : ℕ) (some : 0 < s) where
   unfolding score mateNode
   score-mate m free L a i h counts =
       simp (counts, mate-digit s some a i, node-split)
-      at (count-change m (group s i) (λ v. not (free v) && L (node s v (digit s (mateRow s a i) v))) (λ v. not (free v) && L (node s v (digit s a v)))
-      (group-lt s some m i h) (λ v l ne. ap (λ d. not (free v) && L (node s v d)) (mate-other s some a i v ne)))
+      at (count-change m (group s i) (scored s free L (mateRow s a i)) (scored s free L a) (group-lt s some m i h) others)
+    where
+      others : (v : ℕ) → v < m → (v ≡ group s i → ⊥) → scored s free L (mateRow s a i) v ≡ scored s free L a v
+      others v l ne = ap (λ d. not (free v) && L (node s v d)) (mate-other s some a i v ne)
