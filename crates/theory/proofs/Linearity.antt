@@ -1,18 +1,17 @@
 -- Weights, shares, equations and fillings of a sum of two stripes and of a multiple of one. In order: weights; equations and whole stripes;
 -- filling; shares.
-use mathlib.Core.Path.{_≡_, refl, sym, ap, ap₂, _∙_}
-use Prim.Native.Nat.{ℕ, compare, _<_, Ordering, Ordering·lt, Ordering·eq, Ordering·gt}
+use mathlib.Core.Path.{_≡_, refl, ap, ap₂, _∙_}
+use Prim.Native.Nat.{ℕ, Ordering, Ordering·lt, Ordering·eq, Ordering·gt}
 use mathlib.Core.Bool.{Bool}
 use Rattle.theory.specs.Field.{Field}
 use Rattle.theory.specs.Code.{Code, Stripe, nodes, plus, scaled}
 use Rattle.theory.specs.Sum.{sum}
-use Rattle.theory.specs.Power.{power, moment}
-use Rattle.theory.specs.Digit.{digit, group, place}
-use Rattle.theory.specs.Weight.{weighed, weight, mateNode, mateRow}
+use Rattle.theory.specs.Power.{moment}
+use Rattle.theory.specs.Weight.{weighed, weight, side, mateNode, mateRow}
 use Rattle.theory.specs.Share.{spread, shared, share}
-use Rattle.theory.specs.Whole.{equation, MeetsRow, Whole, AgreeOff, Fills}
+use Rattle.theory.specs.Whole.{equation, MeetsRow, Whole, Fills}
 use Rattle.theory.proofs.Ring.{ring, mul-left-comm}
-use Rattle.theory.proofs.Sums.{sum-ext, sum-none, sum-add, sum-scale}
+use Rattle.theory.proofs.Sums.{sum-ext, sum-add, sum-scale}
 use Rattle.theory.proofs.Powers.{moment-ext, moment-add, moment-scale}
 
 module _ (c : Code) where
@@ -37,15 +36,15 @@ module _ (c : Code) where
   pub weight-ext : (C D : Stripe c) (a i : ℕ) → C i a ≡ D i a → C (mateNode s a i) (mateRow s a i) ≡ D (mateNode s a i) (mateRow s a i)
       → weight c C a i ≡ weight c D a i
   unfolding weight
-  weight-ext C D a i own other = ap₂ (weighed c (compare (place s i) (digit s a (group s i)))) own other
+  weight-ext C D a i own other = ap₂ (weighed c (side s a i)) own other
 
   pub weight-add : (C D : Stripe c) (a i : ℕ) → weight c (plus c C D) a i ≡ weight c C a i ⊕ weight c D a i
   unfolding weight
-  weight-add C D a i = weighed-add (compare (place s i) (digit s a (group s i))) _ _ _ _
+  weight-add C D a i = weighed-add (side s a i) _ _ _ _
 
   pub weight-scaled : (z : K) (C : Stripe c) (a i : ℕ) → weight c (scaled c z C) a i ≡ z ⊗ weight c C a i
   unfolding weight
-  weight-scaled z C a i = weighed-scaled (compare (place s i) (digit s a (group s i))) z _ _
+  weight-scaled z C a i = weighed-scaled (side s a i) z _ _
 
   pub equation-add : (C D : Stripe c) (a t : ℕ) → equation c (plus c C D) a t ≡ equation c C a t ⊕ equation c D a t
   unfolding equation
@@ -94,8 +93,8 @@ module _ (c : Code) where
 
   pub share-add : (t i : ℕ) (x y : ℕ → K) (a : ℕ) → share c t i (λ b. x b ⊕ y b) a ≡ share c t i x a ⊕ share c t i y a
   unfolding share
-  share-add t i x y a = shared-add (compare (place s i) (digit s a (group s i))) t i x y a
+  share-add t i x y a = shared-add (side s a i) t i x y a
 
   pub share-scaled : (t i : ℕ) (z : K) (x : ℕ → K) (a : ℕ) → share c t i (λ b. z ⊗ x b) a ≡ z ⊗ share c t i x a
   unfolding share
-  share-scaled t i z x a = shared-scaled (compare (place s i) (digit s a (group s i))) t i z x a
+  share-scaled t i z x a = shared-scaled (side s a i) t i z x a

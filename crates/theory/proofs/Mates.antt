@@ -4,7 +4,8 @@ use mathlib.Core.Path.{_≡_, refl, sym, ap, _∙_, subst}
 use Prim.Native.Nat.{ℕ, zero, suc, _*_, _^_, _<_, zero-le, suc-le-suc, compare, Ordering, Ordering·lt, Ordering·eq, Ordering·gt, compare·zero-suc, compare·suc-zero, compare·suc-suc}
 use native.Mathlib.Omega.{arith}
 use Rattle.theory.specs.Digit.{digit, group, place, node}
-use Rattle.theory.specs.Weight.{mateNode, mateRow}
+use Rattle.theory.specs.Weight.{mateNode, mateRow, side}
+use Rattle.theory.specs.Pair.{flipped}
 use Rattle.theory.proofs.Digits.{digit-lt, digit-set-same, digit-set-other, set-set, set-digit, set-same, set-lt, group-node, place-node, node-split, place-lt, group-lt, node-lt}
 
 -- what an answer of the comparison says of the two numbers
@@ -12,11 +13,6 @@ abbrev pub Compared : Ordering → ℕ → ℕ → Type 0
 Compared Ordering·lt x y = x < y
 Compared Ordering·eq x y = x ≡ y
 Compared Ordering·gt x y = y < x
-
-abbrev pub flipped : Ordering → Ordering
-flipped Ordering·lt = Ordering·gt
-flipped Ordering·eq = Ordering·eq
-flipped Ordering·gt = Ordering·lt
 
 pub compare-says : (x y : ℕ) → Compared (compare x y) x y
 compare-says zero zero = refl
@@ -44,8 +40,8 @@ compare-only x y o h = go (compare x y) o (compare-says x y) h
     go Ordering·gt Ordering·eq h k = absurd (omega arith)
     go Ordering·gt Ordering·gt h k = refl
 
-pub compare→ : (x y : ℕ) {o : Ordering} → compare x y ≡ o → Compared o x y
-compare→ x y e = subst (λ (o : Ordering). Compared o x y) e (compare-says x y)
+pub compare→compared : (x y : ℕ) {o : Ordering} → compare x y ≡ o → Compared o x y
+compare→compared x y e = subst (λ (o : Ordering). Compared o x y) e (compare-says x y)
 
 pub compare-flip : (x y : ℕ) → compare y x ≡ flipped (compare x y)
 compare-flip x y = compare-only y x (flipped (compare x y)) (turned (compare x y) (compare-says x y))
@@ -88,10 +84,21 @@ module _ (s : ℕ) (some : 0 < s) where
   unfolding mateRow
   mate-row-lt m a i h k = set-lt s some m a (group s i) (place s i) (group-lt s some m i h) (place-lt s some i) k
 
-  pub mate-flips : (a i : ℕ)
-      → compare (place s (mateNode s a i)) (digit s (mateRow s a i) (group s (mateNode s a i))) ≡ compare (digit s a (group s i)) (place s i)
-  mate-flips a i = simp (mate-place, mate-group, mate-digit)
+  pub mate-flips : (a i : ℕ) → side s (mateRow s a i) (mateNode s a i) ≡ flipped (side s a i)
+  unfolding side
+  mate-flips a i = simp (mate-place, mate-group, mate-digit) (compare-flip (place s i) (digit s a (group s i)))
 
-  pub mate-own : (a i : ℕ) → place s i ≡ digit s a (group s i) → (mateNode s a i ≡ i) × (mateRow s a i ≡ a)
+  -- the node stands at its row's digit
+  pub side-own : (a i : ℕ) → side s a i ≡ Ordering·eq → place s i ≡ digit s a (group s i)
+  unfolding side
+  side-own a i e = compare→compared (place s i) (digit s a (group s i)) e
+
+  pub own-side : (a i : ℕ) → place s i ≡ digit s a (group s i) → side s a i ≡ Ordering·eq
+  unfolding side
+  own-side a i e = compare-only (place s i) (digit s a (group s i)) Ordering·eq e
+
+  pub mate-own : (a i : ℕ) → side s a i ≡ Ordering·eq → (mateNode s a i ≡ i) × (mateRow s a i ≡ a)
   unfolding mateNode mateRow
-  mate-own a i e = (rw (← e) (node-split s i), set-same s some a (group s i) (place s i) (sym e))
+  mate-own a i e =
+      let own : place s i ≡ digit s a (group s i) = side-own a i e in
+      (rw (← own) (node-split s i), set-same s some a (group s i) (place s i) (sym own))

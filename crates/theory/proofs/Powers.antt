@@ -1,6 +1,6 @@
 -- Laws of powers and of the sums of powers times unknowns. In order: clauses of powers, a power of a sum of exponents; moments: extensionality,
 -- of sums and of multiples, one point taken out of all.
-use mathlib.Core.Path.{_≡_, refl, sym, ap, _∙_}
+use mathlib.Core.Path.{_≡_, refl, ap, _∙_}
 use Prim.Native.Nat.{ℕ, zero, suc, _+_, _<_}
 use native.Mathlib.Nat.{add-zero, add-suc}
 use Rattle.theory.specs.Field.{Field}

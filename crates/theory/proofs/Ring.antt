@@ -1,5 +1,5 @@
 -- Laws of a field of characteristic 2.
-use mathlib.Core.Path.{_≡_, refl, sym, ap, ap₂, _∙_}
+use mathlib.Core.Path.{_≡_, sym, ap, ap₂, _∙_}
 use Rattle.theory.specs.Field.{Field}
 
 module _ (F : Field) where

@@ -2,21 +2,21 @@
 -- all columns in an equation sum to the weighted sum of all weights; a zero column has zero shares.
 use mathlib.Core.Path.{_≡_, refl, sym, ap, ap₂, _∙_}
 use Prim.Native.Nat.{ℕ, compare, _*_, _<_, Ordering, Ordering·lt, Ordering·eq, Ordering·gt}
-use native.Mathlib.Omega.{arith}
 use Rattle.theory.specs.Field.{Field}
 use Rattle.theory.specs.Sum.{sum}
 use Rattle.theory.specs.Power.{power, moment}
 use Rattle.theory.specs.Code.{Code, Stripe, Lawful, nodes, rows}
 use Rattle.theory.specs.Digit.{digit, withDigit, group, place, node}
-use Rattle.theory.specs.Weight.{weight, mateNode, mateRow}
+use Rattle.theory.specs.Weight.{weight, side, mateNode, mateRow}
+use Rattle.theory.specs.Pair.{factor}
 use Rattle.theory.specs.Share.{spread, shared, share}
 use Rattle.theory.specs.Whole.{equation}
 use Rattle.theory.proofs.Ring as R
 use Rattle.theory.proofs.Ring.{ring}
 use Rattle.theory.proofs.Sums.{sum-ext, sum-none, sum-one, sum-add, sum-groups}
-use Rattle.theory.proofs.Digits.{digit-lt, group-node, place-node}
-use Rattle.theory.proofs.Mates.{compare→, compare-only}
-use Rattle.theory.proofs.Weights.{side, factor, weight-split}
+use Rattle.theory.proofs.Digits.{digit-lt, set-lt, group-lt, group-node, place-node}
+use Rattle.theory.proofs.Mates.{compare→compared, compare-only}
+use Rattle.theory.proofs.Weights.{weight-split}
 
 -- what stands only where the place is the row's digit
 unfoldable at-digit : (c : Code) → Ordering → c .field .K → c .field .K
@@ -40,9 +40,9 @@ module _ (c : Code) (h : Lawful c) where
   above p x = simp ring
 
   share-split : (t i : ℕ) (x : ℕ → K) (a : ℕ)
-      → share c t i x a ≡ power F (point i) t ⊗ (factor c (side c a i) ⊗ x a) ⊕ at-digit c (side c a i) (spread c t (group s i) x a)
+      → share c t i x a ≡ power F (point i) t ⊗ (factor c (side s a i) ⊗ x a) ⊕ at-digit c (side s a i) (spread c t (group s i) x a)
   unfolding share shared factor at-digit
-  share-split t i x a = go (side c a i)
+  share-split t i x a = go (side s a i)
     where
       go : (o : Ordering) → shared c o t i x a ≡ power F (point i) t ⊗ (factor c o ⊗ x a) ⊕ at-digit c o (spread c t (group s i) x a)
       go Ordering·lt = below γ (power F (point i) t) (x a)
@@ -54,7 +54,8 @@ module _ (c : Code) (h : Lawful c) where
   sum-nodes k f = sum-groups F k s f
 
   -- node u of group v, and its mate, at row a
-  side-node : (a v u : ℕ) → u < s → side c a (node s v u) ≡ compare u (digit s a v)
+  side-node : (a v u : ℕ) → u < s → side s a (node s v u) ≡ compare u (digit s a v)
+  unfolding side
   side-node a v u l = simp (place-node s v u l, group-node s v u l)
 
   mate-node : (a v u : ℕ) → u < s → mateNode s a (node s v u) ≡ node s v (digit s a v)
@@ -67,7 +68,7 @@ module _ (c : Code) (h : Lawful c) where
 
   -- only the node at the row's digit spreads, over the mates of its group
   group-spread : (t v : ℕ) (C : Stripe c) (a : ℕ)
-      → sum F s (λ u. at-digit c (side c a (node s v u)) (spread c t (group s (node s v u)) (C (node s v u)) a))
+      → sum F s (λ u. at-digit c (side s a (node s v u)) (spread c t (group s (node s v u)) (C (node s v u)) a))
       ≡ sum F s (λ u. power F (point (node s v u)) t ⊗ C (mateNode s a (node s v u)) (mateRow s a (node s v u)))
   unfolding at-digit spread
   group-spread t v C a =
@@ -81,8 +82,8 @@ module _ (c : Code) (h : Lawful c) where
       dl : d < s
       dl = digit-lt s (h .some-place) a v
 
-      other : (u : ℕ) → u < s → (u ≡ d → ⊥) → at-digit c (side c a (node s v u)) (spread c t (group s (node s v u)) (C (node s v u)) a) ≡ 𝟘
-      other u l ne = rw (side-node a v u l) (go (compare u d) (λ e. ne (compare→ u d e)))
+      other : (u : ℕ) → u < s → (u ≡ d → ⊥) → at-digit c (side s a (node s v u)) (spread c t (group s (node s v u)) (C (node s v u)) a) ≡ 𝟘
+      other u l ne = rw (side-node a v u l) (go (compare u d) (λ e. ne (compare→compared u d e)))
         where
           go : (o : Ordering) → (o ≡ Ordering·eq → ⊥) → at-digit c o (spread c t (group s (node s v u)) (C (node s v u)) a) ≡ 𝟘
           go Ordering·lt n = refl
@@ -99,7 +100,7 @@ module _ (c : Code) (h : Lawful c) where
       ∙ sum-ext F s _ _ (λ u l. sym (ap (λ w. power F (point (node s v u)) t ⊗ w) (weight-split c h C a (node s v u)) ∙ F .mul-add _ _ _))
     where
       own : ℕ → K
-      own u = power F (point (node s v u)) t ⊗ (factor c (side c a (node s v u)) ⊗ C (node s v u) a)
+      own u = power F (point (node s v u)) t ⊗ (factor c (side s a (node s v u)) ⊗ C (node s v u) a)
 
   -- an equation is the sum of the shares of all columns
   pub equation-shares : (C : Stripe c) (a t : ℕ) → equation c C a t ≡ sum F (nodes c) (λ i. share c t i (C i) a)
@@ -110,13 +111,17 @@ module _ (c : Code) (h : Lawful c) where
       ∙ sym (sum-nodes m (λ i. share c t i (C i) a))
 
   -- a node at the row's digit spreads
-  pub share-own : (t i : ℕ) (x : ℕ → K) (a : ℕ) → side c a i ≡ Ordering·eq → share c t i x a ≡ spread c t (group s i) x a
+  pub share-own : (t i : ℕ) (x : ℕ → K) (a : ℕ) → side s a i ≡ Ordering·eq → share c t i x a ≡ spread c t (group s i) x a
   unfolding share shared
   share-own t i x a e = rw e
 
-  pub share-zero : (t i : ℕ) (x : ℕ → K) (a : ℕ) → a < rows c → i < nodes c → ((b : ℕ) → b < rows c → x b ≡ 𝟘) → share c t i x a ≡ 𝟘
-  unfolding share
-  share-zero t i x a al il z = go (side c a i)
+  -- a zero column has zero shares: phantoms drop out, though their points stay
+  pub share-zero : (t i : ℕ) (x : ℕ → K) (a : ℕ) → i < nodes c → a < rows c → ((b : ℕ) → b < rows c → x b ≡ 𝟘) → share c t i x a ≡ 𝟘
+  unfolding share shared spread
+  share-zero t i x a il al z = go (side s a i)
     where
       go : (o : Ordering) → shared c o t i x a ≡ 𝟘
-      go o = ?
+      go Ordering·lt = ap (λ w. γ ⊗ power F (point i) t ⊗ w) (z a al) ∙ R.mul-zero F _
+      go Ordering·eq =
+          sum-none F s _ (λ w l. ap (λ y. power F (point (node s (group s i) w)) t ⊗ y) (z _ (set-lt s (h .some-place) m a (group s i) w (group-lt s (h .some-place) m i il) l al)) ∙ R.mul-zero F _)
+      go Ordering·gt = ap (λ w. power F (point i) t ⊗ w) (z a al) ∙ R.mul-zero F _

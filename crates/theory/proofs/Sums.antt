@@ -1,5 +1,5 @@
 -- Laws of finite sums. In order: clauses; extensionality; sums of zeros, of sums, of multiples; exchanging; splitting, by a bound, by groups, by a
--- set, at one place. Not here: a sum over a listed set, which stands in Lists.
+-- set, at one place; a sum over a listed set.
 use mathlib.Core.Path.{_≡_, refl, sym, ap, ap₂, _∙_}
 use mathlib.Core.Bool.{Bool, true, false, not, cond}
 use Prim.Native.Nat.{ℕ, zero, suc, _+_, _*_, _<_}
@@ -9,7 +9,9 @@ use lib.Dec.{eqb}
 use borrow.Author.Tests.{eqb-true, eqb-false, eq-eqb, ne-eqb}
 use Rattle.theory.specs.Field.{Field}
 use Rattle.theory.specs.Sum.{sum, sumOver}
+use Rattle.theory.specs.Set.{changed, without, Lists}
 use Rattle.theory.proofs.Ring.{ring}
+use Rattle.theory.proofs.Counts.{count-empty, lists-count, lists-less}
 
 module _ (F : Field) where
   open Field F using (K, zero as 𝟘, add as _⊕_, mul as _⊗_)
@@ -86,13 +88,39 @@ module _ (F : Field) where
           let other : (n ≡ j → ⊥) = eqb-false n j e in
           simp (sum-suc, ih (omega arith) (λ i k o. h i (omega arith) o), h n (omega arith) other, ring)
 
-  pub sum-at : (n j : ℕ) (f : ℕ → K) → j < n → sum F n f ≡ f j ⊕ sum F n (λ i. cond (eqb i j) 𝟘 (f i))
+  pub sum-at : (n j : ℕ) (f : ℕ → K) → j < n → sum F n f ≡ f j ⊕ sum F n (changed j 𝟘 f)
+  unfolding changed
   sum-at n j f l =
-      sum-ext n f (λ i. cond (eqb i j) (f i) 𝟘 ⊕ cond (eqb i j) 𝟘 (f i)) (λ i k. one (eqb i j) (f i))
-      ∙ sum-add n (λ i. cond (eqb i j) (f i) 𝟘) (λ i. cond (eqb i j) 𝟘 (f i))
-      ∙ ap (λ w. w ⊕ sum F n (λ i. cond (eqb i j) 𝟘 (f i)))
-      (sum-one n j (λ i. cond (eqb i j) (f i) 𝟘) l (λ i k o. rw (ne-eqb i j o)) ∙ rw (eq-eqb j j refl))
+      sum-ext n f (λ i. only i ⊕ changed j 𝟘 f i) (λ i k. both (eqb i j) (f i))
+      ∙ sum-add n only (changed j 𝟘 f)
+      ∙ ap (λ w. w ⊕ sum F n (changed j 𝟘 f)) (sum-one n j only l (λ i k o. rw (ne-eqb i j o)) ∙ rw (eq-eqb j j refl))
     where
-      one : (b : Bool) (x : K) → x ≡ cond b x 𝟘 ⊕ cond b 𝟘 x
-      one true x = simp ring
-      one false x = simp ring
+      only : ℕ → K
+      only i = cond (eqb i j) (f i) 𝟘
+
+      both : (b : Bool) (x : K) → x ≡ cond b x 𝟘 ⊕ cond b 𝟘 x
+      both true x = simp ring
+      both false x = simp ring
+
+  -- a sum over a listed set is the sum over its list
+  sum-over-less : (n : ℕ) (L : ℕ → Bool) (j : ℕ) (f : ℕ → K) → j < n → L j ≡ true → sumOver F n L f ≡ sumOver F n (without j L) f ⊕ f j
+  unfolding sumOver changed
+  sum-over-less n L j f l e =
+      sum-at n j (λ i. cond (L i) (f i) 𝟘) l
+      ∙ ap₂ _⊕_ (ap (λ b. cond b (f j) 𝟘) e) (sum-ext n _ _ (λ i k. less (eqb i j) (L i) (f i)))
+      ∙ F .add-comm _ _
+    where
+      less : (b l : Bool) (x : K) → cond b 𝟘 (cond l x 𝟘) ≡ cond (cond b false l) x 𝟘
+      less true l x = refl
+      less false l x = refl
+
+  sum-over-none : (n : ℕ) (L : ℕ → Bool) (f : ℕ → K) → ((i : ℕ) → i < n → L i ≡ false) → sumOver F n L f ≡ 𝟘
+  unfolding sumOver
+  sum-over-none n L f h = sum-none n _ (λ i l. ap (λ b. cond b (f i) 𝟘) (h i l))
+
+  pub sum-over-list : (n : ℕ) (L : ℕ → Bool) (k : ℕ) (e : ℕ → ℕ) (f : ℕ → K) → Lists n L k e → sumOver F n L f ≡ sum F k (λ j. f (e j))
+  sum-over-list n L zero e f h = sum-over-none n L f (count-empty n L (lists-count n L 0 e h)) ∙ sym (sum-zero (λ j. f (e j)))
+  sum-over-list n L (suc k) e f h =
+      sum-over-less n L (e k) f (h .below k (omega arith)) (h .inside k (omega arith))
+      ∙ ap (λ w. w ⊕ f (e k)) (sum-over-list n (without (e k) L) k e f (lists-less n L k e h))
+      ∙ sym (sum-suc k (λ j. f (e j)))

@@ -2,36 +2,21 @@
 -- reached. The points are only known to differ: 0 may be among them. Both go by induction on the number of places, with a split on whether
 -- the last is in the set: multiplying each unknown by the difference of its point from the last one's takes the last unknown out.
 use mathlib.Core.Path.{_≡_, refl, sym, ap, ap₂, _∙_}
-use mathlib.Core.Bool.{Bool, true, false, cond, true≢false}
-use Prim.Native.Nat.{ℕ, zero, suc, _+_, _<_, _≤_}
+use mathlib.Core.Bool.{Bool, true, false, true≢false}
+use Prim.Native.Nat.{ℕ, zero, suc, _<_}
 use native.Mathlib.Numerals.{add-one}
 use native.Mathlib.Omega.{arith}
-use lib.Dec.{eqb}
 use borrow.Author.Count.{below-more}
-use borrow.Author.Tests.{eqb-true, eq-eqb, ne-eqb}
 use Rattle.theory.specs.Field.{Field}
-use Rattle.theory.specs.Set.{count, one-if}
+use Rattle.theory.specs.Set.{count, changed}
+use Rattle.theory.specs.System.{Distinct, Vanishes, Reaches}
 use Rattle.theory.specs.Sum.{sum}
 use Rattle.theory.specs.Power.{power, moment}
 use Rattle.theory.proofs.Ring as R
 use Rattle.theory.proofs.Ring.{ring}
+use Rattle.theory.proofs.Counts.{count-zero, count-suc, changed-same, changed-other, changed-case}
 use Rattle.theory.proofs.Sums.{sum-suc, sum-ext}
-use Rattle.theory.proofs.Powers.{power-zero, moment-first, moment-none, moment-suc, moment-ext, moment-zero, moment-shift}
-
--- the points of the places below n differ
-abbrev pub Distinct : (F : Field) → (ℕ → F .K) → ℕ → Type 0
-Distinct F p n = (i j : ℕ) → i < n → j < n → p i ≡ p j → i ≡ j
-
--- x is 0 outside the set L, which has at most k places, and k sums of powers times x are 0
-pub record Vanishes (F : Field) (p : ℕ → F .K) (n k : ℕ) (L : ℕ → Bool) (x : ℕ → F .K) : Type 0 where
-  pub few : count n L ≤ k
-  pub off : (i : ℕ) → i < n → L i ≡ false → x i ≡ F .zero
-  pub sums : (t : ℕ) → t < k → moment F n p x t ≡ F .zero
-
--- x is 0 outside the set L, and its k sums of powers are b
-pub record Reaches (F : Field) (p : ℕ → F .K) (n k : ℕ) (L : ℕ → Bool) (b x : ℕ → F .K) : Type 0 where
-  pub off : (i : ℕ) → L i ≡ false → x i ≡ F .zero
-  pub sums : (t : ℕ) → t < k → moment F n p x t ≡ b t
+use Rattle.theory.proofs.Powers.{power-zero, moment-first, moment-suc, moment-ext, moment-zero, moment-shift}
 
 module _ (F : Field) (p : ℕ → F .K) where
   open Field F using (K, zero as 𝟘, add as _⊕_, mul as _⊗_, inverse)
@@ -58,19 +43,17 @@ module _ (F : Field) (p : ℕ → F .K) where
   Only n = (k : ℕ) (L : ℕ → Bool) (x : ℕ → K) → Distinct F p n → Vanishes F p n k L x → (i : ℕ) → i < n → x i ≡ 𝟘
 
   only-out : (n : ℕ) → Only n → (k : ℕ) (L : ℕ → Bool) (x : ℕ → K) → L n ≡ false → Distinct F p (suc n) → Vanishes F p (suc n) k L x → (i : ℕ) → i < suc n → x i ≡ 𝟘
-  unfolding count
   only-out n ih k L x out d v =
       let last : x n ≡ 𝟘 = v .off n (omega arith) out in
       let rest : Vanishes F p n k L x = record {
-        few = omega (arith, rw out at (v .few));
+        few = omega (arith, simp (count-suc, out) at (v .few));
         off = λ i l. v .off i (omega arith);
         sums = λ t l. sym (simp (last, ring) at (moment-suc F n p x t)) ∙ v .sums t l;
       } in
       λ i l. below-more _ _ (ih k L x (fewer n d) rest) last i (simp add-one l)
 
   only-in : (n : ℕ) → Only n → (k : ℕ) (L : ℕ → Bool) (x : ℕ → K) → L n ≡ true → Distinct F p (suc n) → Vanishes F p (suc n) k L x → (i : ℕ) → i < suc n → x i ≡ 𝟘
-  unfolding count
-  only-in n ih zero L x into d v = absurd (omega (arith, rw into at (v .few)))
+  only-in n ih zero L x into d v = absurd (omega (arith, simp (count-suc, into) at (v .few)))
   only-in n ih (suc k) L x into d v = λ i l. below-more _ _ low last i (simp add-one l)
     where
       -- the last unknown taken out
@@ -79,7 +62,7 @@ module _ (F : Field) (p : ℕ → F .K) where
 
       rest : Vanishes F p n k L y
       rest = record {
-        few = omega (arith, rw into at (v .few));
+        few = omega (arith, simp (count-suc, into) at (v .few));
         off = λ i l o. simp (v .off i (omega arith) o, ring);
         sums = λ t l. last-out n x t ∙ simp (v .sums (suc t) (omega arith), v .sums t (omega arith), ring);
       }
@@ -102,14 +85,12 @@ module _ (F : Field) (p : ℕ → F .K) where
   Reached n = (k : ℕ) (L : ℕ → Bool) (b : ℕ → K) → Distinct F p n → count n L ≡ k → (x : ℕ → K) × Reaches F p n k L b x
 
   reached-none : Reached 0
-  unfolding count
-  reached-none k L b d e = (λ i. 𝟘, record { off = λ i o. refl; sums = λ t l. absurd (omega arith) })
+  reached-none k L b d e = (λ i. 𝟘, record { off = λ i o. refl; sums = λ t l. absurd (omega (arith, count-zero L)) })
 
   reached-out : (n : ℕ) → Reached n → (k : ℕ) (L : ℕ → Bool) (b : ℕ → K) → L n ≡ false → Distinct F p (suc n) → count (suc n) L ≡ k
       → (x : ℕ → K) × Reaches F p (suc n) k L b x
-  unfolding count
   reached-out n ih k L b out d e =
-      let (x, h) = ih k L b (fewer n d) (omega (arith, rw out at e)) in
+      let (x, h) = ih k L b (fewer n d) (omega (arith, simp (count-suc, out) at e)) in
       (x, record { off = h .off; sums = λ t l. moment-suc F n p x t ∙ simp (h .off n out, h .sums t l, ring) })
 
   module _ (n k : ℕ) (L : ℕ → Bool) (b : ℕ → K) (into : L n ≡ true) (d : Distinct F p (suc n)) (y : ℕ → K)
@@ -119,15 +100,15 @@ module _ (F : Field) (p : ℕ → F .K) where
     before i = inverse (p i ⊕ p n) ⊗ y i
 
     extended : ℕ → K
-    extended i = cond (eqb i n) (b 0 ⊕ sum F n before) (before i)
+    extended = changed n (b 0 ⊕ sum F n before) before
 
     extended-last : extended n ≡ b 0 ⊕ sum F n before
     unfolding extended
-    extended-last = rw (eq-eqb n n refl)
+    extended-last = changed-same n _ before
 
     extended-before : (i : ℕ) → i < n → extended i ≡ before i
     unfolding extended
-    extended-before i l = rw (ne-eqb i n (λ e. omega arith))
+    extended-before i l = changed-other n _ before i (omega arith)
 
     extended-first : moment F (suc n) p extended 0 ≡ b 0
     extended-first =
@@ -152,21 +133,19 @@ module _ (F : Field) (p : ℕ → F .K) where
 
     extended-off : (i : ℕ) → L i ≡ false → extended i ≡ 𝟘
     unfolding extended before
-    extended-off i o = go (eqb i n) refl
-      where
-        go : (e : Bool) → eqb i n ≡ e → cond e (b 0 ⊕ sum F n before) (inverse (p i ⊕ p n) ⊗ y i) ≡ 𝟘
-        go true e = absurd (true≢false (sym into ∙ sym (ap L (eqb-true i n e)) ∙ o))
-        go false e = simp (h .off i o, ring)
+    extended-off i o =
+        changed-case (λ w. w ≡ 𝟘) n _ before i
+        (λ e. absurd (true≢false (sym into ∙ sym (ap L e) ∙ o)))
+        (λ ne. simp (h .off i o, ring))
 
     extended-reaches : Reaches F p (suc n) (suc k) L b extended
     extended-reaches = record { off = extended-off; sums = extended-sums }
 
   reached-in : (n : ℕ) → Reached n → (k : ℕ) (L : ℕ → Bool) (b : ℕ → K) → L n ≡ true → Distinct F p (suc n) → count (suc n) L ≡ k
       → (x : ℕ → K) × Reaches F p (suc n) k L b x
-  unfolding count
-  reached-in n ih zero L b into d e = absurd (omega (arith, rw into at e))
+  reached-in n ih zero L b into d e = absurd (omega (arith, simp (count-suc, into) at e))
   reached-in n ih (suc k) L b into d e =
-      let (y, h) = ih k L (λ t. b (suc t) ⊕ p n ⊗ b t) (fewer n d) (omega (arith, rw into at e)) in
+      let (y, h) = ih k L (λ t. b (suc t) ⊕ p n ⊗ b t) (fewer n d) (omega (arith, simp (count-suc, into) at e)) in
       (extended n k L b into d y h, extended-reaches n k L b into d y h)
 
   pub vandermonde-reached : (n k : ℕ) (L : ℕ → Bool) (b : ℕ → K) → Distinct F p n → count n L ≡ k → (x : ℕ → K) × Reaches F p n k L b x

@@ -1,29 +1,15 @@
 -- Laws of weights and of the coupled pair. In order: a weight as a multiple of the own symbol plus the mate's; a weight at its row's digit; two
 -- weights of a pair settle the two symbols, and every two weights are reached.
 use mathlib.Core.Path.{_≡_, refl, sym, ap, ap₂, _∙_}
-use Prim.Native.Nat.{ℕ, compare, _<_, Ordering, Ordering·lt, Ordering·eq, Ordering·gt}
-use native.Mathlib.Omega.{arith}
+use Prim.Native.Nat.{ℕ, Ordering, Ordering·lt, Ordering·eq, Ordering·gt}
 use Rattle.theory.specs.Field.{Field}
 use Rattle.theory.specs.Code.{Code, Stripe, Lawful}
-use Rattle.theory.specs.Digit.{digit, group, place}
-use Rattle.theory.specs.Weight.{weighed, weight, mateNode, mateRow}
+use Rattle.theory.specs.Digit.{place}
+use Rattle.theory.specs.Weight.{weighed, weight, side, mateNode, mateRow}
+use Rattle.theory.specs.Pair.{flipped, factor, unpaired}
 use Rattle.theory.proofs.Ring as R
 use Rattle.theory.proofs.Ring.{ring}
-use Rattle.theory.proofs.Mates.{Compared, compare-only, compare→, compare-flip, flipped, mate-own, mate-flips, mate-mate-node, mate-mate-row}
-
--- how the place of node i compares with its digit of row a
-abbrev pub side : (c : Code) → ℕ → ℕ → Ordering
-side c a i = compare (place (c .s) i) (digit (c .s) a (group (c .s) i))
-
--- what a weight takes of the own symbol, where the mate's is added
-unfoldable pub factor : (c : Code) → Ordering → c .field .K
-factor c Ordering·lt = c .γ
-factor c Ordering·eq = c .field .zero
-factor c Ordering·gt = c .field .one
-
--- the own symbol, from the two weights of a pair
-unfoldable pub unpaired : (c : Code) → Ordering → c .field .K → c .field .K → c .field .K
-unpaired c o w w′ = c .field .mul (c .field .inverse (c .field .add (c .γ) (c .field .one))) (c .field .add (c .field .mul (factor c (flipped o)) w) w′)
+use Rattle.theory.proofs.Mates.{mate-own}
 
 module _ (c : Code) (h : Lawful c) where
   open Code c using (field as F, s, γ)
@@ -31,18 +17,18 @@ module _ (c : Code) (h : Lawful c) where
 
   infixl 60 _⊕_
   infixl 70 _⊗_
-  pub weight-own : (C : Stripe c) (a i : ℕ) → side c a i ≡ Ordering·eq → weight c C a i ≡ C i a
+  pub weight-own : (C : Stripe c) (a i : ℕ) → side s a i ≡ Ordering·eq → weight c C a i ≡ C i a
   unfolding weight weighed
   weight-own C a i e = rw e
 
-  pub weight-split : (C : Stripe c) (a i : ℕ) → weight c C a i ≡ factor c (side c a i) ⊗ C i a ⊕ C (mateNode s a i) (mateRow s a i)
+  pub weight-split : (C : Stripe c) (a i : ℕ) → weight c C a i ≡ factor c (side s a i) ⊗ C i a ⊕ C (mateNode s a i) (mateRow s a i)
   unfolding weight weighed factor
-  weight-split C a i = go (side c a i) refl
+  weight-split C a i = go (side s a i) refl
     where
-      go : (o : Ordering) → side c a i ≡ o → weighed c o (C i a) (C (mateNode s a i) (mateRow s a i)) ≡ factor c o ⊗ C i a ⊕ C (mateNode s a i) (mateRow s a i)
+      go : (o : Ordering) → side s a i ≡ o → weighed c o (C i a) (C (mateNode s a i) (mateRow s a i)) ≡ factor c o ⊗ C i a ⊕ C (mateNode s a i) (mateRow s a i)
       go Ordering·lt e = refl
       go Ordering·eq e =
-          let own : (mateNode s a i ≡ i) × (mateRow s a i ≡ a) = mate-own s (h .some-place) a i (compare→ (place s i) (digit s a (group s i)) e) in
+          let own : (mateNode s a i ≡ i) × (mateRow s a i ≡ a) = mate-own s (h .some-place) a i e in
           sym (R.zero-add F (C i a)) ∙ ap₂ _⊕_ (sym (R.zero-mul F (C i a))) (sym (ap₂ C (own .0) (own .1)))
       go Ordering·gt e = simp ring
 

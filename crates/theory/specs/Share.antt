@@ -2,9 +2,10 @@
 --   spread c t v x a == the sum over w < s of the point at place w of group v to the power t, times x at row a with digit v set to w
 --   shared c o ..    == the three cases, o being how i's place compares with the row's digit
 --   share c t i x a  == the share of column x of node i in equation t of row a
-use Prim.Native.Nat.{ℕ, compare, Ordering, Ordering·lt, Ordering·eq, Ordering·gt}
+use Prim.Native.Nat.{ℕ, Ordering, Ordering·lt, Ordering·eq, Ordering·gt}
 use Rattle.theory.specs.Code.{Code}
-use Rattle.theory.specs.Digit.{digit, withDigit, group, place, node}
+use Rattle.theory.specs.Digit.{withDigit, group, node}
+use Rattle.theory.specs.Weight.{side}
 use Rattle.theory.specs.Sum.{sum}
 use Rattle.theory.specs.Power.{power}
 
@@ -17,4 +18,4 @@ shared c Ordering·eq t i x a = spread c t (group (c .s) i) x a
 shared c Ordering·gt t i x a = c .field .mul (power (c .field) (c .point i) t) (x a)
 
 unfoldable pub share : (c : Code) → ℕ → ℕ → (ℕ → c .field .K) → ℕ → c .field .K
-share c t i x a = shared c (compare (place (c .s) i) (digit (c .s) a (group (c .s) i))) t i x a
+share c t i x a = shared c (side (c .s) a i) t i x a
