@@ -10,3 +10,4 @@ pub mod Scores
 pub mod Weights
 pub mod Shares
 pub mod Linearity
+pub mod Settled

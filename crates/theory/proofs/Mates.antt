@@ -51,6 +51,11 @@ compare-flip x y = compare-only y x (flipped (compare x y)) (turned (compare x y
     turned Ordering·eq h = sym h
     turned Ordering·gt h = h
 
+pub on-digit : (o : Ordering) → Dec (o ≡ Ordering·eq)
+on-digit Ordering·lt = no (λ e. let z : _≡_ {A = ℕ} 0 1 = cc in omega arith)
+on-digit Ordering·eq = yes refl
+on-digit Ordering·gt = no (λ e. let z : _≡_ {A = ℕ} 0 1 = cc in omega arith)
+
 module _ (s : ℕ) (some : 0 < s) where
   pub mate-group : (a i : ℕ) → group s (mateNode s a i) ≡ group s i
   unfolding mateNode

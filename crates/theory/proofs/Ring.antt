@@ -75,3 +75,6 @@ module _ (F : Field) where
 
   pub add-cancel-right : {x y : K} (z : K) → x ⊕ z ≡ y ⊕ z → x ≡ y
   add-cancel-right {x} {y} z h = simp ring at (ap (λ w. w ⊕ z) h)
+
+  pub add-twice : (x y : K) → x ⊕ y ⊕ y ≡ x
+  add-twice x y = simp ring

@@ -1,5 +1,5 @@
 -- Laws of weights and of the coupled pair. In order: a weight as a multiple of the own symbol plus the mate's; a weight at its row's digit; two
--- weights of a pair settle the two symbols, and every two weights are reached.
+-- weights of a pair settle the two symbols, and every two weights are reached; the symbols of a stripe from its weights.
 use mathlib.Core.Path.{_≡_, refl, sym, ap, ap₂, _∙_}
 use Prim.Native.Nat.{ℕ, Ordering, Ordering·lt, Ordering·eq, Ordering·gt}
 use Rattle.theory.specs.Field.{Field}
@@ -9,7 +9,7 @@ use Rattle.theory.specs.Weight.{weighed, weight, side, mateNode, mateRow
 use Rattle.theory.specs.Pair.{flipped, factor, unpaired}
 use Rattle.theory.proofs.Ring as R
 use Rattle.theory.proofs.Ring.{ring}
-use Rattle.theory.proofs.Mates.{mate-own}
+use Rattle.theory.proofs.Mates.{mate-own, mate-flips, mate-mate-node, mate-mate-row}
 
 module _ (c : Code) (h : Lawful c) where
   open Code c using (field as F, s, γ)
@@ -52,3 +52,27 @@ module _ (c : Code) (h : Lawful c) where
   pair-reached Ordering·lt w w′ ne = _∙_ {b = (γ ⊕ 𝟙) ⊗ (inverse (γ ⊕ 𝟙) ⊗ w)} (simp ring) (R.mul-inverse-right F (γ ⊕ 𝟙) w γ-and-one)
   pair-reached Ordering·eq w w′ ne = absurd (ne refl)
   pair-reached Ordering·gt w w′ ne = _∙_ {b = (γ ⊕ 𝟙) ⊗ (inverse (γ ⊕ 𝟙) ⊗ w)} (simp ring) (R.mul-inverse-right F (γ ⊕ 𝟙) w γ-and-one)
+
+  pub unpaired-zero : (o : Ordering) → unpaired c o 𝟘 𝟘 ≡ 𝟘
+  unfolding unpaired
+  unpaired-zero o = simp ring
+
+  -- the mate's weight, from the same two symbols
+  pub weight-mate : (C : Stripe c) (a i : ℕ)
+      → weight c C (mateRow s a i) (mateNode s a i) ≡ weighed c (flipped (side s a i)) (C (mateNode s a i) (mateRow s a i)) (C i a)
+  unfolding weight
+  weight-mate C a i = simp (mate-flips s (h .some-place), mate-mate-node s (h .some-place), mate-mate-row s (h .some-place))
+
+  -- the two weights of a pair settle its symbols
+  pub symbol-paired : (C : Stripe c) (a i : ℕ) → (side s a i ≡ Ordering·eq → ⊥)
+      → unpaired c (side s a i) (weight c C a i) (weight c C (mateRow s a i) (mateNode s a i)) ≡ C i a
+  unfolding weight
+  symbol-paired C a i ne = ap (unpaired c (side s a i) (weight c C a i)) (weight-mate C a i) ∙ pair-only (side s a i) _ _ ne
+
+  -- a weight and the mate's symbol settle the own
+  pub symbol-single : (C : Stripe c) (a i : ℕ) → (side s a i ≡ Ordering·eq → ⊥)
+      → inverse (factor c (side s a i)) ⊗ (weight c C a i ⊕ C (mateNode s a i) (mateRow s a i)) ≡ C i a
+  symbol-single C a i ne =
+      ap (λ w. inverse (factor c (side s a i)) ⊗ (w ⊕ C (mateNode s a i) (mateRow s a i))) (weight-split C a i)
+      ∙ ap (λ w. inverse (factor c (side s a i)) ⊗ w) (R.add-twice F _ _)
+      ∙ R.mul-inverse-left F _ _ (factor-not-zero (side s a i) ne)

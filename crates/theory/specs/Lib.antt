@@ -10,6 +10,8 @@
 --   Pair    == a node and its mate: the two symbols from the two weights
 --   Share   == what one column adds to an equation: source 000, equation (4)
 --   Score   == the order in which rows are settled
+--   Free    == free groups and good rows: filling and rebuilding as one
+--   Level   == filling level by level
 --   Whole   == a row meets its equations, a stripe is whole, a stripe fills another
 --   Read    == the rows read for a failed node, and what a rebuilt column must meet
 pub mod Field
@@ -23,5 +25,7 @@ pub mod Weight
 pub mod Pair
 pub mod Share
 pub mod Score
+pub mod Free
+pub mod Level
 pub mod Whole
 pub mod Read
