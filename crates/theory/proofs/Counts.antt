@@ -42,7 +42,7 @@ pub without-member : (j : ℕ) (L : ℕ → Bool) (i : ℕ) → without j L i �
 without-member j L i =
     changed-case (λ b. b ≡ true → (i ≡ j → ⊥) × (L i ≡ true)) j false L i (λ q r. absurd (false≢true r)) (λ ne r. (ne, r))
 
-one-if-le : (b : Bool) → one-if b ≤ 1
+pub one-if-le : (b : Bool) → one-if b ≤ 1
 one-if-le true = omega arith
 one-if-le false = omega arith
 

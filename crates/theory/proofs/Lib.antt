@@ -11,3 +11,4 @@ pub mod Weights
 pub mod Shares
 pub mod Linearity
 pub mod Settled
+pub mod Levels

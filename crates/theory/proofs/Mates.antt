@@ -51,6 +51,15 @@ compare-flip x y = compare-only y x (flipped (compare x y)) (turned (compare x y
     turned Ordering·eq h = sym h
     turned Ordering·gt h = h
 
+-- seen from the other side a node off the row's digit is off it too
+pub flipped-off : (o : Ordering) → (o ≡ Ordering·eq → ⊥) → flipped o ≡ Ordering·eq → ⊥
+flipped-off o ne e = ne (back o ∙ ap flipped e)
+  where
+    back : (o : Ordering) → o ≡ flipped (flipped o)
+    back Ordering·lt = refl
+    back Ordering·eq = refl
+    back Ordering·gt = refl
+
 pub on-digit : (o : Ordering) → Dec (o ≡ Ordering·eq)
 on-digit Ordering·lt = no (λ e. let z : _≡_ {A = ℕ} 0 1 = cc in omega arith)
 on-digit Ordering·eq = yes refl
@@ -92,6 +101,9 @@ module _ (s : ℕ) (some : 0 < s) where
   pub mate-flips : (a i : ℕ) → side s (mateRow s a i) (mateNode s a i) ≡ flipped (side s a i)
   unfolding side
   mate-flips a i = simp (mate-place, mate-group, mate-digit) (compare-flip (place s i) (digit s a (group s i)))
+
+  pub mate-off : (a i : ℕ) → (side s a i ≡ Ordering·eq → ⊥) → side s (mateRow s a i) (mateNode s a i) ≡ Ordering·eq → ⊥
+  mate-off a i ne e = flipped-off (side s a i) ne (sym (mate-flips a i) ∙ e)
 
   -- the node stands at its row's digit
   pub side-own : (a i : ℕ) → side s a i ≡ Ordering·eq → place s i ≡ digit s a (group s i)

@@ -1,13 +1,16 @@
 -- Laws of powers and of the sums of powers times unknowns. In order: clauses of powers, a power of a sum of exponents; moments: extensionality,
--- of sums and of multiples, one point taken out of all.
+-- of sums and of multiples, one point taken out of all; moments over a set.
 use mathlib.Core.Path.{_≡_, refl, ap, _∙_}
+use mathlib.Core.Bool.{Bool, true, false, not}
 use Prim.Native.Nat.{ℕ, zero, suc, _+_, _<_}
 use native.Mathlib.Nat.{add-zero, add-suc}
+use borrow.Author.Tests.{not-true}
 use Rattle.theory.specs.Field.{Field}
 use Rattle.theory.specs.Sum.{sum}
-use Rattle.theory.specs.Power.{power, moment}
+use Rattle.theory.specs.Power.{power, moment, momentOver}
+use Rattle.theory.specs.Set.{Lists}
 use Rattle.theory.proofs.Ring.{ring}
-use Rattle.theory.proofs.Sums.{sum-zero, sum-suc, sum-ext, sum-none, sum-add, sum-scale}
+use Rattle.theory.proofs.Sums.{sum-zero, sum-suc, sum-ext, sum-none, sum-add, sum-scale, sum-over-split, sum-over-ext, sum-over-zero, sum-over-list}
 
 module _ (F : Field) where
   open Field F using (K, zero as 𝟘, one as 𝟙, add as _⊕_, mul as _⊗_)
@@ -73,3 +76,29 @@ module _ (F : Field) where
       moment-suc n p (λ i. (p i ⊕ q) ⊗ x i) t
       ∙ ap (λ w. w ⊕ power F (p n) t ⊗ ((p n ⊕ q) ⊗ x n)) (moment-shift n p q x t)
       ∙ simp (moment-suc, power-suc, ring)
+
+  -- sums of powers over a set
+  pub moment-over-split : (n : ℕ) (L : ℕ → Bool) (p x : ℕ → K) (t : ℕ) → moment F n p x t ≡ momentOver F n L p x t ⊕ momentOver F n (λ i. not (L i)) p x t
+  unfolding moment momentOver
+  moment-over-split n L p x t = sum-over-split F n L (λ i. power F (p i) t ⊗ x i)
+
+  pub moment-over-ext : (n : ℕ) (L : ℕ → Bool) (p x y : ℕ → K) (t : ℕ) → ((i : ℕ) → i < n → L i ≡ true → x i ≡ y i)
+      → momentOver F n L p x t ≡ momentOver F n L p y t
+  unfolding momentOver
+  moment-over-ext n L p x y t h = sum-over-ext F n L _ _ (λ i l e. ap (λ w. power F (p i) t ⊗ w) (h i l e))
+
+  pub moment-over-zero : (n : ℕ) (L : ℕ → Bool) (p x : ℕ → K) (t : ℕ) → ((i : ℕ) → i < n → L i ≡ true → x i ≡ 𝟘) → momentOver F n L p x t ≡ 𝟘
+  unfolding momentOver
+  moment-over-zero n L p x t h = sum-over-zero F n L _ (λ i l e. simp (h i l e, ring))
+
+  -- unknowns that are 0 outside the set
+  pub moment-inside : (n : ℕ) (L : ℕ → Bool) (p x : ℕ → K) (t : ℕ) → ((i : ℕ) → i < n → L i ≡ false → x i ≡ 𝟘) → moment F n p x t ≡ momentOver F n L p x t
+  moment-inside n L p x t h =
+      moment-over-split n L p x t
+      ∙ ap (λ w. momentOver F n L p x t ⊕ w) (moment-over-zero n (λ i. not (L i)) p x t (λ i l out. h i l (not-true (L i) out)))
+      ∙ F .add-zero _
+
+  pub moment-over-list : (n : ℕ) (L : ℕ → Bool) (k : ℕ) (e : ℕ → ℕ) (p x : ℕ → K) (t : ℕ) → Lists n L k e
+      → momentOver F n L p x t ≡ moment F k (λ j. p (e j)) (λ j. x (e j)) t
+  unfolding moment momentOver
+  moment-over-list n L k e p x t h = sum-over-list F n L k e (λ i. power F (p i) t ⊗ x i) h

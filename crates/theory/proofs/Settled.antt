@@ -3,23 +3,22 @@
 -- makes the weights of lost nodes 0; then a lost symbol is its weight, or comes from its weight and a kept mate's symbol, or from the two weights
 -- of a pair, whose rows have the same score.
 use mathlib.Core.Path.{_≡_, refl, sym, ap, ap₂, _∙_}
-use mathlib.Core.Bool.{Bool, true, false, cond}
-use Prim.Native.Nat.{ℕ, zero, suc, _+_, _<_, _≤_, Ordering, Ordering·lt, Ordering·eq, Ordering·gt}
+use mathlib.Core.Bool.{Bool, true, false}
+use Prim.Native.Nat.{ℕ, zero, suc, _<_, _≤_, Ordering, Ordering·eq}
 use native.Mathlib.Omega.{arith}
 use Rattle.theory.specs.Field.{Field}
-use Rattle.theory.specs.Set.{count, one-if}
+use Rattle.theory.specs.Set.{count}
 use Rattle.theory.specs.Code.{Code, Stripe, Lawful, nodes, rows}
 use Rattle.theory.specs.Digit.{group}
 use Rattle.theory.specs.Weight.{weight, side, mateNode, mateRow}
-use Rattle.theory.specs.Pair.{factor, unpaired}
+use Rattle.theory.specs.Pair.{unpaired}
 use Rattle.theory.specs.Score.{score}
 use Rattle.theory.specs.Free.{weightFree, MeetsFree, Closed}
-use Rattle.theory.proofs.Ring as R
 use Rattle.theory.proofs.Ring.{ring}
 use Rattle.theory.proofs.Vandermonde.{vandermonde-only}
 use Rattle.theory.proofs.Mates.{on-digit, mate-group, mate-node-lt, mate-row-lt}
 use Rattle.theory.proofs.Scores.{score-le, score-mate}
-use Rattle.theory.proofs.Weights.{weight-own, weight-split, factor-not-zero, unpaired-zero, symbol-paired, symbol-single}
+use Rattle.theory.proofs.Weights.{weight-free, weight-bound, weight-own, weight-split, unpaired-zero, symbol-paired, symbol-single}
 
 -- a stripe that is 0 outside few nodes and meets its equations, in the good rows
 pub record Blank (c : Code) (k : ℕ) (free : ℕ → Bool) (good : ℕ → Type 0) (L : ℕ → Bool) (D : Stripe c) : Type 0 where
@@ -33,14 +32,6 @@ module _ (c : Code) (h : Lawful c) (free : ℕ → Bool) where
 
   infixl 60 _⊕_
   infixl 70 _⊗_
-  pub weight-free : (C : Stripe c) (a i : ℕ) → free (group s i) ≡ true → weightFree c free C a i ≡ C i a
-  unfolding weightFree
-  weight-free C a i e = rw e
-
-  pub weight-bound : (C : Stripe c) (a i : ℕ) → free (group s i) ≡ false → weightFree c free C a i ≡ weight c C a i
-  unfolding weightFree
-  weight-bound C a i e = rw e
-
   module _ (k : ℕ) (good : ℕ → Type 0) (closed : Closed c free good) (L : ℕ → Bool) (D : Stripe c) (blank : Blank c k free good L D) where
     -- a good row of a score below n
     abbrev Row : ℕ → ℕ → Type 0
@@ -75,8 +66,8 @@ module _ (c : Code) (h : Lawful c) (free : ℕ → Bool) where
           own = blank .off i a il (row .0) (row .1) out
 
           go : (b : Bool) → free (group s i) ≡ b → weightFree c free D a i ≡ 𝟘
-          go true e = weight-free D a i e ∙ own
-          go false e = weight-bound D a i e ∙ weight-split c h D a i ∙ simp (own, kept-mate a row i il out e, ring)
+          go true e = weight-free c free D a i e ∙ own
+          go false e = weight-bound c free D a i e ∙ weight-split c h D a i ∙ simp (own, kept-mate a row i il out e, ring)
 
       all-weights : (a : ℕ) → Row (suc n) a → (i : ℕ) → i < nodes c → weightFree c free D a i ≡ 𝟘
       all-weights a row =
@@ -84,7 +75,7 @@ module _ (c : Code) (h : Lawful c) (free : ℕ → Bool) where
           (record { few = blank .few; off = kept-weight a row; sums = blank .meets a (row .0) (row .1) })
 
       bound-weight : (a : ℕ) → Row (suc n) a → (i : ℕ) → i < nodes c → free (group s i) ≡ false → weight c D a i ≡ 𝟘
-      bound-weight a row i il bound = sym (weight-bound D a i bound) ∙ all-weights a row i il
+      bound-weight a row i il bound = sym (weight-bound c free D a i bound) ∙ all-weights a row i il
 
       -- off the row's digit a lost symbol comes from its weight and the mate's symbol, if that is kept, and else from the two weights of the pair
       lost-off : (a : ℕ) → Row (suc n) a → (i : ℕ) → i < nodes c → L i ≡ true → free (group s i) ≡ false → (side s a i ≡ Ordering·eq → ⊥) → D i a ≡ 𝟘
@@ -117,7 +108,7 @@ module _ (c : Code) (h : Lawful c) (free : ℕ → Bool) where
         where
           go : (b : Bool) → L i ≡ b → (f : Bool) → free (group s i) ≡ f → D i a ≡ 𝟘
           go false out f e = blank .off i a il (row .0) (row .1) out
-          go true into true e = sym (weight-free D a i e) ∙ all-weights a row i il
+          go true into true e = sym (weight-free c free D a i e) ∙ all-weights a row i il
           go true into false e = lost-bound a row i il into e (on-digit (side s a i))
 
     zero-all : (n : ℕ) → Zero n

@@ -11,7 +11,7 @@ use Rattle.theory.specs.Field.{Field}
 use Rattle.theory.specs.Sum.{sum, sumOver}
 use Rattle.theory.specs.Set.{changed, without, Lists}
 use Rattle.theory.proofs.Ring.{ring}
-use Rattle.theory.proofs.Counts.{count-empty, lists-count, lists-less}
+use Rattle.theory.proofs.Counts.{lists-less}
 
 module _ (F : Field) where
   open Field F using (K, zero as 𝟘, add as _⊕_, mul as _⊗_)
@@ -75,6 +75,14 @@ module _ (F : Field) where
       one true x y e = e refl
       one false x y e = refl
 
+  pub sum-over-zero : (n : ℕ) (L : ℕ → Bool) (f : ℕ → K) → ((i : ℕ) → i < n → L i ≡ true → f i ≡ 𝟘) → sumOver F n L f ≡ 𝟘
+  unfolding sumOver
+  sum-over-zero n L f h = sum-none n _ (λ i l. one (L i) (f i) (h i l))
+    where
+      one : (b : Bool) (x : K) → (b ≡ true → x ≡ 𝟘) → cond b x 𝟘 ≡ 𝟘
+      one true x e = e refl
+      one false x e = refl
+
   -- a sum with one term, and one term taken out of a sum
   pub sum-one : (n j : ℕ) (f : ℕ → K) → j < n → ((i : ℕ) → i < n → (i ≡ j → ⊥) → f i ≡ 𝟘) → sum F n f ≡ f j
   sum-one zero j f l h = absurd (omega arith)
@@ -114,12 +122,8 @@ module _ (F : Field) where
       less true l x = refl
       less false l x = refl
 
-  sum-over-none : (n : ℕ) (L : ℕ → Bool) (f : ℕ → K) → ((i : ℕ) → i < n → L i ≡ false) → sumOver F n L f ≡ 𝟘
-  unfolding sumOver
-  sum-over-none n L f h = sum-none n _ (λ i l. ap (λ b. cond b (f i) 𝟘) (h i l))
-
   pub sum-over-list : (n : ℕ) (L : ℕ → Bool) (k : ℕ) (e : ℕ → ℕ) (f : ℕ → K) → Lists n L k e → sumOver F n L f ≡ sum F k (λ j. f (e j))
-  sum-over-list n L zero e f h = sum-over-none n L f (count-empty n L (lists-count n L 0 e h)) ∙ sym (sum-zero (λ j. f (e j)))
+  sum-over-list n L zero e f h = sum-over-zero n L f (λ i l b. absurd (omega (arith, h .all i l b .1))) ∙ sym (sum-zero (λ j. f (e j)))
   sum-over-list n L (suc k) e f h =
       sum-over-less n L (e k) f (h .below k (omega arith)) (h .inside k (omega arith))
       ∙ ap (λ w. w ⊕ f (e k)) (sum-over-list n (without (e k) L) k e f (lists-less n L k e h))

@@ -1,10 +1,13 @@
 -- Laws of weights and of the coupled pair. In order: a weight as a multiple of the own symbol plus the mate's; a weight at its row's digit; two
--- weights of a pair settle the two symbols, and every two weights are reached; the symbols of a stripe from its weights.
+-- weights of a pair settle the two symbols, and every two weights are reached; the symbols of a stripe from its weights;
+-- weights in free groups and in bound ones.
 use mathlib.Core.Path.{_≡_, refl, sym, ap, ap₂, _∙_}
+use mathlib.Core.Bool.{Bool, true, false}
 use Prim.Native.Nat.{ℕ, Ordering, Ordering·lt, Ordering·eq, Ordering·gt}
 use Rattle.theory.specs.Field.{Field}
 use Rattle.theory.specs.Code.{Code, Stripe, Lawful}
-use Rattle.theory.specs.Digit.{place}
+use Rattle.theory.specs.Digit.{group}
+use Rattle.theory.specs.Free.{weightFree}
 use Rattle.theory.specs.Weight.{weighed, weight, side, mateNode, mateRow}
 use Rattle.theory.specs.Pair.{flipped, factor, unpaired}
 use Rattle.theory.proofs.Ring as R
@@ -76,3 +79,14 @@ module _ (c : Code) (h : Lawful c) where
       ap (λ w. inverse (factor c (side s a i)) ⊗ (w ⊕ C (mateNode s a i) (mateRow s a i))) (weight-split C a i)
       ∙ ap (λ w. inverse (factor c (side s a i)) ⊗ w) (R.add-twice F _ _)
       ∙ R.mul-inverse-left F _ _ (factor-not-zero (side s a i) ne)
+
+module _ (c : Code) (free : ℕ → Bool) where
+  open Code c using (s)
+
+  pub weight-free : (C : Stripe c) (a i : ℕ) → free (group s i) ≡ true → weightFree c free C a i ≡ C i a
+  unfolding weightFree
+  weight-free C a i e = rw e
+
+  pub weight-bound : (C : Stripe c) (a i : ℕ) → free (group s i) ≡ false → weightFree c free C a i ≡ weight c C a i
+  unfolding weightFree
+  weight-bound C a i e = rw e

@@ -7,7 +7,7 @@
 use mathlib.Core.Path.{_≡_}
 use mathlib.Core.Bool.{Bool, false, cond}
 use Prim.Native.Nat.{ℕ, _<_}
-use Rattle.theory.specs.Code.{Code, Stripe, nodes, rows}
+use Rattle.theory.specs.Code.{Code, Stripe, nodes}
 use Rattle.theory.specs.Digit.{group}
 use Rattle.theory.specs.Power.{moment}
 use Rattle.theory.specs.Weight.{weight, mateRow}

@@ -5,7 +5,7 @@
 --   Stepped c k free L n E x E′ == x solves the rows of score n, and E′ is E with the symbols so found stored at those rows
 use mathlib.Core.Path.{_≡_}
 use mathlib.Core.Bool.{Bool, true, false, cond, not}
-use Prim.Native.Nat.{ℕ, suc, _<_, Ordering, Ordering·lt, Ordering·eq, Ordering·gt}
+use Prim.Native.Nat.{ℕ, _<_, Ordering, Ordering·lt, Ordering·eq, Ordering·gt}
 use Rattle.theory.specs.Code.{Code, Stripe, nodes, rows}
 use Rattle.theory.specs.Digit.{group}
 use Rattle.theory.specs.Free.{weightFree, MeetsFree}
