@@ -12,3 +12,4 @@ pub mod Shares
 pub mod Linearity
 pub mod Settled
 pub mod Levels
+pub mod Filling
