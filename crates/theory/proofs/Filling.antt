@@ -1,15 +1,15 @@
--- Filling lost columns. In order: equations depend on symbols alone, fewer equations; filling is unique, and it exists; with fewer lost than equations;
+-- Filling lost columns. In order: fewer equations, equal symbols; filling is unique, and it exists; with fewer lost than equations;
 -- filling is linear.
-use mathlib.Core.Path.{_≡_, refl, sym, ap, ap₂, _∙_}
+use mathlib.Core.Path.{_≡_, refl, sym, _∙_}
 use mathlib.Core.Bool.{Bool, true, false, true≢false}
 use mathlib.Core.Logic.{_↔_}
-use Prim.Native.Nat.{ℕ, suc, _<_, _≤_}
+use Prim.Native.Nat.{ℕ, _<_, _≤_}
 use native.Mathlib.Omega.{arith}
 use Rattle.theory.specs.Field.{Field}
 use Rattle.theory.specs.Set.{count, Inside}
 use Rattle.theory.specs.Code.{Code, Stripe, Lawful, nodes, rows, plus, scaled}
 use Rattle.theory.specs.Power.{moment}
-use Rattle.theory.specs.Weight.{weight, mateNode, mateRow}
+use Rattle.theory.specs.Weight.{weight}
 use Rattle.theory.specs.Free.{noGroup, MeetsFree}
 use Rattle.theory.specs.Whole.{equation, MeetsRow, Whole, Same, AgreeOff, Fills}
 use Rattle.theory.proofs.Ring as R
@@ -17,21 +17,13 @@ use Rattle.theory.proofs.Powers.{moment-ext}
 use Rattle.theory.proofs.Mates.{mate-node-lt, mate-row-lt}
 use Rattle.theory.proofs.Scores.{score-le}
 use Rattle.theory.proofs.Weights.{weight-bound}
-use Rattle.theory.proofs.Linearity.{weight-ext, whole-add, fills-add, fills-scaled}
+use Rattle.theory.proofs.Linearity.{equation-ext, whole-add, fills-add, fills-scaled}
 use Rattle.theory.proofs.Settled.{settled-zero}
 use Rattle.theory.proofs.Levels.{reached}
 
 module _ (c : Code) where
   open Code c using (field as F, s, point)
   open Field F using (K)
-
-  -- an equation depends on the symbols of its row and of the mates alone
-  pub equation-ext : (C D : Stripe c) (a t : ℕ)
-      → ((i : ℕ) → i < nodes c → C i a ≡ D i a)
-      → ((i : ℕ) → i < nodes c → C (mateNode s a i) (mateRow s a i) ≡ D (mateNode s a i) (mateRow s a i))
-      → equation c C a t ≡ equation c D a t
-  unfolding equation
-  equation-ext C D a t own other = moment-ext F (nodes c) point _ _ t (λ i l. weight-ext c C D a i (own i l) (other i l))
 
   pub whole-fewer : (k r : ℕ) (C : Stripe c) → k ≤ r → Whole c r C → Whole c k C
   whole-fewer k r C le w a al t l = w a al t (omega arith)

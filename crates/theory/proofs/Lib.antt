@@ -13,3 +13,4 @@ pub mod Linearity
 pub mod Settled
 pub mod Levels
 pub mod Filling
+pub mod Rebuilding

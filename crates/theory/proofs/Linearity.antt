@@ -1,7 +1,7 @@
 -- Weights, shares, equations and fillings of a sum of two stripes and of a multiple of one. In order: weights; equations and whole stripes;
 -- filling; shares.
 use mathlib.Core.Path.{_≡_, refl, ap, ap₂, _∙_}
-use Prim.Native.Nat.{ℕ, Ordering, Ordering·lt, Ordering·eq, Ordering·gt}
+use Prim.Native.Nat.{ℕ, _<_, Ordering, Ordering·lt, Ordering·eq, Ordering·gt}
 use mathlib.Core.Bool.{Bool}
 use Rattle.theory.specs.Field.{Field}
 use Rattle.theory.specs.Code.{Code, Stripe, nodes, plus, scaled}
@@ -45,6 +45,14 @@ module _ (c : Code) where
   pub weight-scaled : (z : K) (C : Stripe c) (a i : ℕ) → weight c (scaled c z C) a i ≡ z ⊗ weight c C a i
   unfolding weight
   weight-scaled z C a i = weighed-scaled (side s a i) z _ _
+
+  -- an equation depends on the symbols of its row and of the mates alone
+  pub equation-ext : (C D : Stripe c) (a t : ℕ)
+      → ((i : ℕ) → i < nodes c → C i a ≡ D i a)
+      → ((i : ℕ) → i < nodes c → C (mateNode s a i) (mateRow s a i) ≡ D (mateNode s a i) (mateRow s a i))
+      → equation c C a t ≡ equation c D a t
+  unfolding equation
+  equation-ext C D a t own other = moment-ext F (nodes c) point _ _ t (λ i l. weight-ext C D a i (own i l) (other i l))
 
   pub equation-add : (C D : Stripe c) (a t : ℕ) → equation c (plus c C D) a t ≡ equation c C a t ⊕ equation c D a t
   unfolding equation

@@ -78,3 +78,6 @@ module _ (F : Field) where
 
   pub add-twice : (x y : K) → x ⊕ y ⊕ y ≡ x
   add-twice x y = simp ring
+
+  pub add-around : (x y : K) → x ⊕ (y ⊕ x) ≡ y
+  add-around x y = simp ring

@@ -35,6 +35,10 @@ module _ (c : Code) (h : Lawful c) where
           sym (R.zero-add F (C i a)) ∙ ap₂ _⊕_ (sym (R.zero-mul F (C i a))) (sym (ap₂ C (own .0) (own .1)))
       go Ordering·gt e = simp ring
 
+  pub factor-own : {o : Ordering} → o ≡ Ordering·eq → factor c o ≡ 𝟘
+  unfolding factor
+  factor-own e = rw e
+
   pub factor-not-zero : (o : Ordering) → (o ≡ Ordering·eq → ⊥) → factor c o ≡ 𝟘 → ⊥
   unfolding factor
   factor-not-zero Ordering·lt ne = h .γ-not-zero
