@@ -14,3 +14,4 @@ pub mod Settled
 pub mod Levels
 pub mod Filling
 pub mod Rebuilding
+pub mod Systems

@@ -5,13 +5,11 @@ use Prim.Native.Nat.{ℕ, _<_, Ordering, Ordering·lt, Ordering·eq, Ordering·g
 use mathlib.Core.Bool.{Bool}
 use Rattle.theory.specs.Field.{Field}
 use Rattle.theory.specs.Code.{Code, Stripe, nodes, plus, scaled}
-use Rattle.theory.specs.Sum.{sum}
 use Rattle.theory.specs.Power.{moment}
 use Rattle.theory.specs.Weight.{weighed, weight, side, mateNode, mateRow}
 use Rattle.theory.specs.Share.{spread, shared, share}
 use Rattle.theory.specs.Whole.{equation, MeetsRow, Whole, Fills}
-use Rattle.theory.proofs.Ring.{ring, mul-left-comm}
-use Rattle.theory.proofs.Sums.{sum-ext, sum-add, sum-scale}
+use Rattle.theory.proofs.Ring.{ring}
 use Rattle.theory.proofs.Powers.{moment-ext, moment-add, moment-scale}
 
 module _ (c : Code) where
@@ -90,13 +88,13 @@ module _ (c : Code) where
   shared-add : (o : Ordering) (t i : ℕ) (x y : ℕ → K) (a : ℕ) → shared c o t i (λ b. x b ⊕ y b) a ≡ shared c o t i x a ⊕ shared c o t i y a
   unfolding shared spread
   shared-add Ordering·lt t i x y a = simp ring
-  shared-add Ordering·eq t i x y a = sum-ext F s _ _ (λ w l. F .mul-add _ _ _) ∙ sum-add F s _ _
+  shared-add Ordering·eq t i x y a = moment-add F s _ _ _ t
   shared-add Ordering·gt t i x y a = simp ring
 
   shared-scaled : (o : Ordering) (t i : ℕ) (z : K) (x : ℕ → K) (a : ℕ) → shared c o t i (λ b. z ⊗ x b) a ≡ z ⊗ shared c o t i x a
   unfolding shared spread
   shared-scaled Ordering·lt t i z x a = simp ring
-  shared-scaled Ordering·eq t i z x a = sum-ext F s _ _ (λ w l. mul-left-comm F _ _ _) ∙ sum-scale F s z _
+  shared-scaled Ordering·eq t i z x a = moment-scale F s _ z _ t
   shared-scaled Ordering·gt t i z x a = simp ring
 
   pub share-add : (t i : ℕ) (x y : ℕ → K) (a : ℕ) → share c t i (λ b. x b ⊕ y b) a ≡ share c t i x a ⊕ share c t i y a

@@ -1,7 +1,10 @@
 -- Laws of shares. In order: a share as a multiple of the own symbol and, at the row's digit, a spread; a sum over nodes by groups; the shares of
--- all columns in an equation sum to the weighted sum of all weights; a zero column has zero shares.
+-- all columns in an equation sum to the weighted sum of all weights; a zero column has zero shares, so
+-- that phantoms drop out.
 use mathlib.Core.Path.{_≡_, refl, sym, ap, ap₂, _∙_}
-use Prim.Native.Nat.{ℕ, compare, _*_, _<_, Ordering, Ordering·lt, Ordering·eq, Ordering·gt}
+use Prim.Native.Nat.{ℕ, compare, _+_, _-_, _*_, _<_, _≤_, Ordering, Ordering·lt, Ordering·eq, Ordering·gt}
+use native.Mathlib.Nat.{add-sub-of-le}
+use native.Mathlib.Omega.{arith}
 use Rattle.theory.specs.Field.{Field}
 use Rattle.theory.specs.Sum.{sum}
 use Rattle.theory.specs.Power.{power, moment}
@@ -13,7 +16,8 @@ use Rattle.theory.specs.Share.{spread, shared, share}
 use Rattle.theory.specs.Whole.{equation}
 use Rattle.theory.proofs.Ring as R
 use Rattle.theory.proofs.Ring.{ring}
-use Rattle.theory.proofs.Sums.{sum-ext, sum-none, sum-one, sum-add, sum-groups}
+use Rattle.theory.proofs.Sums.{sum-ext, sum-none, sum-one, sum-add, sum-split, sum-groups}
+use Rattle.theory.proofs.Powers.{moment-zero}
 use Rattle.theory.proofs.Digits.{digit-lt, set-lt, group-lt, group-node, place-node}
 use Rattle.theory.proofs.Mates.{compare→compared, compare-only}
 use Rattle.theory.proofs.Weights.{weight-split}
@@ -70,7 +74,7 @@ module _ (c : Code) (h : Lawful c) where
   group-spread : (t v : ℕ) (C : Stripe c) (a : ℕ)
       → sum F s (λ u. at-digit c (side s a (node s v u)) (spread c t (group s (node s v u)) (C (node s v u)) a))
       ≡ sum F s (λ u. power F (point (node s v u)) t ⊗ C (mateNode s a (node s v u)) (mateRow s a (node s v u)))
-  unfolding at-digit spread
+  unfolding at-digit spread moment
   group-spread t v C a =
       sum-one F s d _ (digit-lt s (h .some-place) a v) other
       ∙ rw (side-node a v d dl, compare-only d d Ordering·eq refl, group-node s v d dl)
@@ -123,5 +127,17 @@ module _ (c : Code) (h : Lawful c) where
       go : (o : Ordering) → shared c o t i x a ≡ 𝟘
       go Ordering·lt = ap (λ w. γ ⊗ power F (point i) t ⊗ w) (z a al) ∙ R.mul-zero F _
       go Ordering·eq =
-          sum-none F s _ (λ w l. ap (λ y. power F (point (node s (group s i) w)) t ⊗ y) (z _ (set-lt s (h .some-place) m a (group s i) w (group-lt s (h .some-place) m i il) l al)) ∙ R.mul-zero F _)
+          moment-zero F s _ _ t (λ w l. z _ (set-lt s (h .some-place) m a (group s i) w (group-lt s (h .some-place) m i il) l al))
       go Ordering·gt = ap (λ w. power F (point i) t ⊗ w) (z a al) ∙ R.mul-zero F _
+
+  -- the shares of the first n columns are enough where the others are zero
+  pub equation-real : (n : ℕ) (C : Stripe c) (a t : ℕ) → n ≤ nodes c → a < rows c
+      → ((i b : ℕ) → n ≤ i → i < nodes c → b < rows c → C i b ≡ 𝟘)
+      → equation c C a t ≡ sum F n (λ i. share c t i (C i) a)
+  equation-real n C a t le al z =
+      equation-shares C a t
+      ∙ ap (λ k. sum F k (λ i. share c t i (C i) a)) (sym (add-sub-of-le le))
+      ∙ sum-split F n (nodes c - n) _
+      ∙ ap (λ w. sum F n (λ i. share c t i (C i) a) ⊕ w)
+      (sum-none F (nodes c - n) _ (λ i l. share-zero t (n + i) (C (n + i)) a (omega arith) al (λ b bl. z (n + i) b (omega arith) (omega arith) bl)))
+      ∙ F .add-zero _

@@ -3,7 +3,7 @@
 -- the last is in the set: multiplying each unknown by the difference of its point from the last one's takes the last unknown out.
 use mathlib.Core.Path.{_≡_, refl, sym, ap, ap₂, _∙_}
 use mathlib.Core.Bool.{Bool, true, false, true≢false}
-use Prim.Native.Nat.{ℕ, zero, suc, _<_}
+use Prim.Native.Nat.{ℕ, zero, suc, _<_, _≤_}
 use native.Mathlib.Numerals.{add-one}
 use native.Mathlib.Omega.{arith}
 use borrow.Author.Count.{below-more}
@@ -14,9 +14,9 @@ use Rattle.theory.specs.Sum.{sum}
 use Rattle.theory.specs.Power.{power, moment}
 use Rattle.theory.proofs.Ring as R
 use Rattle.theory.proofs.Ring.{ring}
-use Rattle.theory.proofs.Counts.{count-zero, count-suc, changed-same, changed-other, changed-case}
+use Rattle.theory.proofs.Counts.{count-zero, count-suc, count-le, count-all, changed-same, changed-other, changed-case}
 use Rattle.theory.proofs.Sums.{sum-suc, sum-ext}
-use Rattle.theory.proofs.Powers.{power-zero, moment-first, moment-suc, moment-ext, moment-zero, moment-shift}
+use Rattle.theory.proofs.Powers.{power-zero, moment-first, moment-suc, moment-ext, moment-zero, moment-add, moment-shift}
 
 module _ (F : Field) (p : ℕ → F .K) where
   open Field F using (K, zero as 𝟘, add as _⊕_, mul as _⊗_, inverse)
@@ -155,3 +155,31 @@ module _ (F : Field) (p : ℕ → F .K) where
       go : (e : Bool) → L n ≡ e → Reached n → (x : ℕ → K) × Reaches F p (suc n) k L b x
       go true into ih = reached-in n ih k L b into d e
       go false out ih = reached-out n ih k L b out d e
+
+  -- two solutions on at most k places are one
+  pub vandermonde-same : (n k : ℕ) (L : ℕ → Bool) (b x y : ℕ → K) → Distinct F p n → count n L ≤ k → Reaches F p n k L b x → Reaches F p n k L b y
+      → (i : ℕ) → i < n → x i ≡ y i
+  vandermonde-same n k L b x y d few v w i l =
+      R.zero→equal F
+      (vandermonde-only n k L (λ i. x i ⊕ y i) d
+      (record {
+        few = few;
+        off = λ i il out. R.equal→zero F (v .off i out ∙ sym (w .off i out));
+        sums = λ t tl. moment-add F n p x y t ∙ R.equal→zero F (v .sums t tl ∙ sym (w .sums t tl));
+      })
+      i l)
+
+  -- a square system: as many equations as places
+  all-in : ℕ → Bool
+  all-in i = true
+
+  square-reaches : (n : ℕ) (b x : ℕ → K) → ((t : ℕ) → t < n → moment F n p x t ≡ b t) → Reaches F p n n all-in b x
+  unfolding all-in
+  square-reaches n b x h = record { off = λ i out. absurd (true≢false out); sums = h }
+
+  pub square-only : (n : ℕ) (x y : ℕ → K) → Distinct F p n → ((t : ℕ) → t < n → moment F n p x t ≡ moment F n p y t) → (i : ℕ) → i < n → x i ≡ y i
+  square-only n x y d h = vandermonde-same n n all-in _ x y d (count-le n all-in) (square-reaches n _ x h) (square-reaches n _ y (λ t l. refl))
+
+  pub square-reached : (n : ℕ) (b : ℕ → K) → Distinct F p n → (x : ℕ → K) × ((t : ℕ) → t < n → moment F n p x t ≡ b t)
+  unfolding all-in
+  square-reached n b d = let (x, h) = vandermonde-reached n n all-in b d (count-all n all-in (λ i l. refl)) in (x, h .sums)

@@ -6,11 +6,10 @@ use Prim.Native.Nat.{ℕ, Ordering, Ordering·lt, Ordering·eq, Ordering·gt}
 use Rattle.theory.specs.Code.{Code}
 use Rattle.theory.specs.Digit.{withDigit, group, node}
 use Rattle.theory.specs.Weight.{side}
-use Rattle.theory.specs.Sum.{sum}
-use Rattle.theory.specs.Power.{power}
+use Rattle.theory.specs.Power.{power, moment}
 
 unfoldable pub spread : (c : Code) → ℕ → ℕ → (ℕ → c .field .K) → ℕ → c .field .K
-spread c t v x a = sum (c .field) (c .s) (λ w. c .field .mul (power (c .field) (c .point (node (c .s) v w)) t) (x (withDigit (c .s) a v w)))
+spread c t v x a = moment (c .field) (c .s) (λ w. c .point (node (c .s) v w)) (λ w. x (withDigit (c .s) a v w)) t
 
 unfoldable pub shared : (c : Code) → Ordering → ℕ → ℕ → (ℕ → c .field .K) → ℕ → c .field .K
 shared c Ordering·lt t i x a = c .field .mul (c .field .mul (c .γ) (power (c .field) (c .point i) t)) (x a)
