@@ -27,7 +27,7 @@ module _ (F : Field) where
 
   pub power-add : (x : K) (t k : ℕ) → power F x (t + k) ≡ power F x t ⊗ power F x k
   power-add x t zero = simp (add-zero, power-zero, ring)
-  power-add x t (suc k) = rw (add-suc, power-suc, power-suc, power-add x t k, F .mul-assoc)
+  power-add x t (suc k) = rw (add-suc, power-suc x (t + k), power-suc x k, power-add x t k, F .mul-assoc)
 
   pub power-mul : (x y : K) (t : ℕ) → power F (x ⊗ y) t ≡ power F x t ⊗ power F y t
   power-mul x y zero = simp (power-zero, ring)
@@ -47,6 +47,9 @@ module _ (F : Field) where
   pub moment-none : (p x : ℕ → K) (t : ℕ) → moment F 0 p x t ≡ 𝟘
   unfolding moment
   moment-none p x t = sum-zero F (λ i. power F (p i) t ⊗ x i)
+
+  pub moment-short : (n : ℕ) (p x : ℕ → K) (t : ℕ) → x n ≡ 𝟘 → moment F (suc n) p x t ≡ moment F n p x t
+  moment-short n p x t e = moment-suc n p x t ∙ simp (e, ring)
 
   pub moment-first : (n : ℕ) (p x : ℕ → K) → moment F n p x 0 ≡ sum F n x
   unfolding moment

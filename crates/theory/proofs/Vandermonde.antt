@@ -16,7 +16,7 @@ use Rattle.theory.proofs.Ring as R
 use Rattle.theory.proofs.Ring.{ring}
 use Rattle.theory.proofs.Counts.{count-zero, count-suc, count-le, count-all, changed-same, changed-other, changed-case}
 use Rattle.theory.proofs.Sums.{sum-suc, sum-ext}
-use Rattle.theory.proofs.Powers.{power-zero, moment-first, moment-suc, moment-ext, moment-zero, moment-add, moment-shift}
+use Rattle.theory.proofs.Powers.{power-zero, moment-first, moment-suc, moment-short, moment-ext, moment-zero, moment-add, moment-shift}
 
 module _ (F : Field) (p : ℕ → F .K) where
   open Field F using (K, zero as 𝟘, add as _⊕_, mul as _⊗_, inverse)
@@ -48,7 +48,7 @@ module _ (F : Field) (p : ℕ → F .K) where
       let rest : Vanishes F p n k L x = record {
         few = omega (arith, simp (count-suc, out) at (v .few));
         off = λ i l. v .off i (omega arith);
-        sums = λ t l. sym (simp (last, ring) at (moment-suc F n p x t)) ∙ v .sums t l;
+        sums = λ t l. sym (moment-short F n p x t last) ∙ v .sums t l;
       } in
       λ i l. below-more _ _ (ih k L x (fewer n d) rest) last i (simp add-one l)
 
@@ -91,7 +91,7 @@ module _ (F : Field) (p : ℕ → F .K) where
       → (x : ℕ → K) × Reaches F p (suc n) k L b x
   reached-out n ih k L b out d e =
       let (x, h) = ih k L b (fewer n d) (omega (arith, simp (count-suc, out) at e)) in
-      (x, record { off = h .off; sums = λ t l. moment-suc F n p x t ∙ simp (h .off n out, h .sums t l, ring) })
+      (x, record { off = h .off; sums = λ t l. moment-short F n p x t (h .off n out) ∙ h .sums t l })
 
   module _ (n k : ℕ) (L : ℕ → Bool) (b : ℕ → K) (into : L n ≡ true) (d : Distinct F p (suc n)) (y : ℕ → K)
       (h : Reaches F p n k L (λ t. b (suc t) ⊕ p n ⊗ b t) y) where
