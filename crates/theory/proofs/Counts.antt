@@ -1,17 +1,17 @@
 -- Laws of counting. In order: clauses; a function changed at one place, a set less one; equal and nested sets, none and all; two sets that differ at
--- one place; a full and an empty set; a set cut in two; a member and a number outside; lists; a set made bigger.
+-- one place; a full and an empty set; a set cut in two; a member and a number outside; lists; a bound on a set; a set made bigger.
 use mathlib.Core.Path.{_≡_, refl, sym, ap, _∙_}
 use mathlib.Core.Logic.{_⊎_, inl, inr}
 use mathlib.Core.Bool.{Bool, true, false, cond, not, _&&_, true≢false, false≢true}
 use Prim.Native.Nat.{ℕ, zero, suc, _+_, _-_, _≤_, _<_}
-use native.Mathlib.Nat.{add-suc, add-zero, eq-or-lt-of-le, le-of-suc-le-suc}
+use native.Mathlib.Nat.{add-sub-of-le, add-suc, add-zero, eq-or-lt-of-le, le-of-suc-le-suc}
 use native.Mathlib.Numerals.{add-one}
 use native.Mathlib.Omega.{arith}
 use native.Mathlib.Decide.{ℕ-discrete}
 use lib.Arith.{lt-of-le-ne}
 use lib.Dec.{eqb}
 use borrow.Author.Tests.{eq-eqb, ne-eqb}
-use Rattle.theory.specs.Set.{one-if, count, changed, without, Inside, Lists}
+use Rattle.theory.specs.Set.{one-if, count, changed, without, Lists, Grown}
 
 pub count-zero : (L : ℕ → Bool) → count 0 L ≡ 0
 unfolding count
@@ -195,12 +195,27 @@ lists (suc n) L = go (L n) refl (lists n L)
     go true h l = (changed (count n L) n (l .0), rw (count-suc, h, add-one) (lists-more n L (count n L) (l .0) h (l .1)))
     go false h l = (l .0, rw (count-suc, h, add-zero) (lists-skip n L (count n L) (l .0) h (l .1)))
 
-grow-by : (d n r : ℕ) (L : ℕ → Bool) → count n L + d ≡ r → r ≤ n → (M : ℕ → Bool) × Inside L M × (count n M ≡ r)
-grow-by zero n r L h k = (L, λ i m. m, omega arith)
-grow-by (suc d) n r L h k =
-    let x = count-room n L (omega arith) in
-    let more = grow-by d n r (changed (x .0) true L) (omega (arith, count-with n (x .0) L (x .1) (x .2))) k in
-    (more .0, λ i m. more .1 i (changed-case (λ b. b ≡ true) (x .0) true L i (λ q. refl) (λ ne. m)), more .2)
+-- a set that has nothing from n on
+pub count-beyond : (n k : ℕ) (L : ℕ → Bool) → ((i : ℕ) → n ≤ i → L i ≡ false) → n ≤ k → count k L ≡ count n L
+count-beyond n k L h l =
+    ap (λ j. count j L) (sym (add-sub-of-le l))
+    ∙ count-split n (k - n) L
+    ∙ omega (arith, count-none (k - n) (λ i. L (n + i)) (λ i m. h (n + i) (omega arith)))
 
-pub grow : (n r : ℕ) (L : ℕ → Bool) → count n L ≤ r → r ≤ n → (M : ℕ → Bool) × Inside L M × (count n M ≡ r)
+-- a set made bigger, by one number at a time
+grow-one : (n r j : ℕ) (L M : ℕ → Bool) → j < n → Grown n r (changed j true L) M → Grown n r L M
+grow-one n r j L M h g = record {
+  holds = λ i m. g .holds i (changed-case (λ b. b ≡ true) j true L i (λ q. refl) (λ ne. m));
+  exact = g .exact;
+  beyond = λ i m. g .beyond i m ∙ changed-other j true L i (omega arith);
+}
+
+grow-by : (d n r : ℕ) (L : ℕ → Bool) → count n L + d ≡ r → r ≤ n → (M : ℕ → Bool) × Grown n r L M
+grow-by zero n r L h k = (L, record { holds = λ i m. m; exact = omega arith; beyond = λ i m. refl })
+grow-by (suc d) n r L h k =
+    let (j, l, out) = count-room n L (omega arith) in
+    let (M, g) = grow-by d n r (changed j true L) (omega (arith, count-with n j L l out)) k in
+    (M, grow-one n r j L M l g)
+
+pub grow : (n r : ℕ) (L : ℕ → Bool) → count n L ≤ r → r ≤ n → (M : ℕ → Bool) × Grown n r L M
 grow n r L h k = grow-by (r - count n L) n r L (omega arith) k

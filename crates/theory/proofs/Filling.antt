@@ -11,7 +11,7 @@ use Rattle.theory.specs.Code.{Code, Stripe, Lawful, nodes, rows, plus, s
 use Rattle.theory.specs.Power.{moment}
 use Rattle.theory.specs.Weight.{weight}
 use Rattle.theory.specs.Free.{noGroup, MeetsFree}
-use Rattle.theory.specs.Whole.{equation, MeetsRow, Whole, Same, AgreeOff, Fills}
+use Rattle.theory.specs.Whole.{equation, MeetsRow, Whole, Same, AgreeOff, AgreeBetween, Fills}
 use Rattle.theory.proofs.Ring as R
 use Rattle.theory.proofs.Powers.{moment-ext}
 use Rattle.theory.proofs.Mates.{mate-node-lt, mate-row-lt}
@@ -77,10 +77,6 @@ module _ (c : Code) (h : Lawful c) where
 
   -- L lies in L′ of exactly r nodes, and D fills L′
   module _ (r : ℕ) (L L′ : ℕ → Bool) (inside : Inside L L′) (exact : count (nodes c) L′ ≡ r) (C D : Stripe c) (fill : Fills c r L′ C D) where
-    -- D agrees with the survivors on L′ without L
-    abbrev pub AgreeBetween : Type 0
-    AgreeBetween = (i a : ℕ) → i < nodes c → a < rows c → L i ≡ false → L′ i ≡ true → C i a ≡ D i a
-
     wider : (W : Stripe c) → Fills c r L C W → Fills c r L′ C W
     wider W w = record {
       whole = w .whole;
@@ -95,7 +91,7 @@ module _ (c : Code) (h : Lawful c) where
     pub fewer-only : (W : Stripe c) → Fills c r L C W → Same c W D
     fewer-only W w = fills-only r L′ C W D (omega arith) (wider W w) fill
 
-    pub fewer-agree : AgreeBetween → Fills c r L C D
+    pub fewer-agree : AgreeBetween c L L′ C D → Fills c r L C D
     fewer-agree agree = record { whole = fill .whole; kept = λ i a il al out. go i a il al out (L′ i) refl }
       where
         go : (i a : ℕ) → i < nodes c → a < rows c → L i ≡ false → (b : Bool) → L′ i ≡ b → C i a ≡ D i a
@@ -103,7 +99,7 @@ module _ (c : Code) (h : Lawful c) where
         go i a il al out false e = fill .kept i a il al e
 
     -- some whole stripe has the survivors of L exactly when D agrees with them
-    pub fewer-iff : ((W : Stripe c) × Fills c r L C W) ↔ AgreeBetween
+    pub fewer-iff : ((W : Stripe c) × Fills c r L C W) ↔ AgreeBetween c L L′ C D
     fewer-iff = (
       λ w i a il al out in′. w .1 .kept i a il al out ∙ fewer-only (w .0) (w .1) i a il al,
       λ agree. (D, fewer-agree agree),

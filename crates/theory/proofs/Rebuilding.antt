@@ -19,7 +19,7 @@ use Rattle.theory.specs.Pair.{factor}
 use Rattle.theory.specs.Free.{weightFree, MeetsFree, Closed}
 use Rattle.theory.specs.Level.{Level}
 use Rattle.theory.specs.Whole.{equation, MeetsRow, Whole}
-use Rattle.theory.specs.Read.{IsRead, MeetsRead, Helps, Rebuilds, HoldsGroup}
+use Rattle.theory.specs.Read.{IsRead, inGroupOf, MeetsRead, Helps, Rebuilds, HoldsGroup}
 use Rattle.theory.proofs.Ring as R
 use Rattle.theory.proofs.Ring.{add-around}
 use Rattle.theory.proofs.Counts.{changed-same, changed-other, lists-count}
@@ -243,11 +243,8 @@ module _ (c : Code) (h : Lawful c) (f : ℕ) where
           (mate-read a i il (ne-eqb _ _ ne) read)
           (λ e. ne (sym (mate-group s some a i) ∙ ap (group s) e))
 
-  -- f's group, and its nodes as a list
-  abbrev pub groupOf : ℕ → Bool
-  groupOf i = ofGroup (group s i)
-
-  pub group-lists : f < nodes c → Lists (nodes c) groupOf s (λ u. node s (group s f) u)
+  -- the nodes of f's group as a list
+  pub group-lists : f < nodes c → Lists (nodes c) (inGroupOf s f) s (λ u. node s (group s f) u)
   group-lists fl = record {
     below = λ u l. node-lt s m (group s f) u (group-lt s some m f fl) l;
     inside = λ u l. eq-eqb _ _ (group-node s (group s f) u l);
@@ -257,19 +254,19 @@ module _ (c : Code) (h : Lawful c) (f : ℕ) where
 
   -- all other nodes asked, and as many equations as a group has places
   module _ (fl : f < nodes c) (G : Stripe c) where
-    group-exact : count (nodes c) groupOf ≡ s
-    group-exact = lists-count (nodes c) groupOf s _ (group-lists fl)
+    group-exact : count (nodes c) (inGroupOf s f) ≡ s
+    group-exact = lists-count (nodes c) (inGroupOf s f) s _ (group-lists fl)
 
-    group-held : HoldsGroup c f groupOf
+    group-held : HoldsGroup c f (inGroupOf s f)
     group-held i il e = eq-eqb _ _ e
 
-    meets→rebuilds : (x : ℕ → K) → MeetsRead c s f G x → Rebuilds c s f groupOf G (changed f x G)
+    meets→rebuilds : (x : ℕ → K) → MeetsRead c s f G x → Rebuilds c s f (inGroupOf s f) G (changed f x G)
     meets→rebuilds x w = record { given = λ i a il al read helps. ap (λ y. y a) (changed-other f x G i (helps .0)); meets = w }
 
     pub rebuilding-only : (x y : ℕ → K) → MeetsRead c s f G x → MeetsRead c s f G y → (b : ℕ) → b < rows c → x b ≡ y b
     rebuilding-only x y v w b bl =
         sym (ap (λ z. z b) (changed-same f x G))
-        ∙ rebuilds-column fl s groupOf group-held (omega (arith, group-exact)) G (changed f x G) (changed f y G) (meets→rebuilds x v) (meets→rebuilds y w) b bl
+        ∙ rebuilds-column fl s (inGroupOf s f) group-held (omega (arith, group-exact)) G (changed f x G) (changed f y G) (meets→rebuilds x v) (meets→rebuilds y w) b bl
         ∙ ap (λ z. z b) (changed-same f y G)
 
     -- a stripe that has the fractions and meets the equations of the rows read: its column is the one
@@ -283,10 +280,10 @@ module _ (c : Code) (h : Lawful c) (f : ℕ) where
 
     pub rebuilding-exists : (x : ℕ → K) × MeetsRead c s f G x
     rebuilding-exists =
-        let (D, w) = rebuilds-exists fl s groupOf group-held group-exact G in
+        let (D, w) = rebuilds-exists fl s (inGroupOf s f) group-held group-exact G in
         (D f, column-meets s D (λ i a il al read ne. w .given i a il al read (ne, helps i (ℕ-discrete (group s i) (group s f)))) (w .meets))
       where
-        helps : (i : ℕ) → Dec (group s i ≡ group s f) → (group s i ≡ group s f) ⊎ (groupOf i ≡ false)
+        helps : (i : ℕ) → Dec (group s i ≡ group s f) → (group s i ≡ group s f) ⊎ (inGroupOf s f i ≡ false)
         helps i (yes e) = inl e
         helps i (no ne) = inr (ne-eqb _ _ ne)
 

@@ -13,18 +13,12 @@ use Rattle.theory.specs.Digit.{group}
 use Rattle.theory.specs.Weight.{weight, side, mateNode, mateRow}
 use Rattle.theory.specs.Pair.{unpaired}
 use Rattle.theory.specs.Score.{score}
-use Rattle.theory.specs.Free.{weightFree, MeetsFree, Closed}
+use Rattle.theory.specs.Free.{weightFree, Closed, Blank}
 use Rattle.theory.proofs.Ring.{ring}
 use Rattle.theory.proofs.Vandermonde.{vandermonde-only}
 use Rattle.theory.proofs.Mates.{on-digit, mate-group, mate-node-lt, mate-row-lt}
 use Rattle.theory.proofs.Scores.{score-le, score-mate}
 use Rattle.theory.proofs.Weights.{weight-free, weight-bound, weight-own, weight-split, unpaired-zero, symbol-paired, symbol-single}
-
--- a stripe that is 0 outside few nodes and meets its equations, in the good rows
-pub record Blank (c : Code) (k : ℕ) (free : ℕ → Bool) (good : ℕ → Type 0) (L : ℕ → Bool) (D : Stripe c) : Type 0 where
-  pub few : count (nodes c) L ≤ k
-  pub off : (i a : ℕ) → i < nodes c → a < rows c → good a → L i ≡ false → D i a ≡ c .field .zero
-  pub meets : (a : ℕ) → a < rows c → good a → MeetsFree c k free D a
 
 module _ (c : Code) (h : Lawful c) (free : ℕ → Bool) where
   open Code c using (field as F, s, m, point, γ)

@@ -5,7 +5,8 @@
 --   changed j x f == the function f, but x at j
 --   without j L   == the set L less j
 --   Lists n L k e == e 0, .., e (k - 1) are the members of L below n, each once
-use Prim.Native.Nat.{ℕ, zero, suc, _+_, _<_}
+--   Grown n r L M == the set M holds L, has r members below n, and is L from n on
+use Prim.Native.Nat.{ℕ, zero, suc, _+_, _<_, _≤_}
 use mathlib.Core.Path.{_≡_}
 use mathlib.Core.Bool.{Bool, true, false, cond}
 use lib.Dec.{eqb}
@@ -33,3 +34,8 @@ pub record Lists (n : ℕ) (L : ℕ → Bool) (k : ℕ) (e : ℕ → ℕ) : Type
   pub inside : (j : ℕ) → j < k → L (e j) ≡ true
   pub once : (i j : ℕ) → i < k → j < k → e i ≡ e j → i ≡ j
   pub all : (i : ℕ) → i < n → L i ≡ true → (j : ℕ) × (j < k) × (e j ≡ i)
+
+pub record Grown (n r : ℕ) (L M : ℕ → Bool) : Type 0 where
+  pub holds : Inside L M
+  pub exact : count n M ≡ r
+  pub beyond : (i : ℕ) → n ≤ i → M i ≡ L i

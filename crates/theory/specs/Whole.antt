@@ -4,10 +4,11 @@
 --   Whole c r C       == every row meets its r equations
 --   Same c C D        == two stripes have the same symbols
 --   AgreeOff c L C D  == two stripes have the same symbols outside the set L
+--   AgreeBetween c L L′ C D == they have the same symbols on L′ without L
 --   Fills c r L C D   == D is whole and has C's symbols outside L
 use Prim.Native.Nat.{ℕ, _<_}
 use mathlib.Core.Path.{_≡_}
-use mathlib.Core.Bool.{Bool, false}
+use mathlib.Core.Bool.{Bool, true, false}
 use Rattle.theory.specs.Code.{Code, Stripe, nodes, rows}
 use Rattle.theory.specs.Power.{moment}
 use Rattle.theory.specs.Weight.{weight}
@@ -26,6 +27,9 @@ Same c C D = (i a : ℕ) → i < nodes c → a < rows c → C i a ≡ D i a
 
 abbrev pub AgreeOff : (c : Code) → (ℕ → Bool) → Stripe c → Stripe c → Type 0
 AgreeOff c L C D = (i a : ℕ) → i < nodes c → a < rows c → L i ≡ false → C i a ≡ D i a
+
+abbrev pub AgreeBetween : (c : Code) → (ℕ → Bool) → (ℕ → Bool) → Stripe c → Stripe c → Type 0
+AgreeBetween c L L′ C D = (i a : ℕ) → i < nodes c → a < rows c → L i ≡ false → L′ i ≡ true → C i a ≡ D i a
 
 pub record Fills (c : Code) (r : ℕ) (L : ℕ → Bool) (C D : Stripe c) : Type 0 where
   pub whole : Whole c r D
