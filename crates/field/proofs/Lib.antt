@@ -1,0 +1,3 @@
+-- The laws of the numbers 0 to 255.
+pub mod Xor
+pub mod Linear

@@ -1,0 +1,66 @@
+-- Functions that keep sums. Two of them that agree at the powers of 2 below 2ᵏ agree at every number below 2ᵏ, so that a law of the
+-- product is tested at powers of 2 alone. In order: what keeps sums; `agree`.
+use mathlib.Core.Path.{_≡_, refl, sym, ap, ap₂, _∙_}
+use Prim.Native.Nat.{ℕ, zero, suc, _+_, _*_, _/_, _%_, _^_, _<_}
+use native.Mathlib.Nat.{mod-lt, zero-mul, one-mul, pow-suc, mul-comm}
+use native.Mathlib.Nat as N
+use native.Mathlib.Omega.{arith}
+use lib.Arith.{lt-one}
+use lib.Bits.{differ, xor-block, xor-shifted}
+use lib.Pow.{pow-pos, split, shr-lt}
+use native.Mathlib.Numerals.{add-one, one-add}
+use Rattle.field.specs.Number.{add}
+use Rattle.field.proofs.Xor.{sums, add-self, zero-add, add-zero, add-odd, add-shr, add-mod}
+
+abbrev pub Linear : (ℕ → ℕ) → Type 0
+Linear f = (a b : ℕ) → f (add a b) ≡ add (f a) (f b)
+
+pub linear-zero : (f : ℕ → ℕ) → Linear f → f 0 ≡ 0
+linear-zero f l = ap f (sym (add-self 0)) ∙ l 0 0 ∙ add-self (f 0)
+
+pub linear-add : (f g : ℕ → ℕ) → Linear f → Linear g → Linear (λ a. add (f a) (g a))
+linear-add f g l m a b = rw (l a b, m a b) (simp sums)
+
+pub linear-shr : (k : ℕ) → Linear (λ a. a / 2 ^ k)
+linear-shr k a b = add-shr a b k
+
+pub linear-mod : (k : ℕ) → Linear (λ a. a % 2 ^ k)
+linear-mod k a b = add-mod a b k
+
+pub linear-shift : (k : ℕ) → Linear (λ a. a * 2 ^ k)
+unfolding add
+linear-shift k a b =
+    sym (simp (N.add-zero) at (xor-block k a b 0 0 (pow-pos k) (pow-pos k)))
+
+scaled : (x y c : ℕ) → x < 2 → y < 2 → differ x y * c ≡ add (x * c) (y * c)
+scaled zero y c h k = simp (zero-mul, zero-add)
+scaled (suc zero) zero c h k = simp (zero-mul, add-zero)
+scaled (suc zero) (suc zero) c h k = simp (zero-mul, add-self)
+scaled (suc zero) (suc (suc y)) c h k = absurd (omega arith)
+scaled (suc (suc x)) y c h k = absurd (omega arith)
+
+-- the lowest bit, times a number
+pub linear-bit : (c : ℕ) → Linear (λ a. a % 2 * c)
+linear-bit c a b = ap (λ x. x * c) (add-odd a b) ∙ scaled (a % 2) (b % 2) c (omega arith) (omega arith)
+
+-- a number is the sum of its part from bit k on and its part below bit k
+pub add-parts : (n k : ℕ) → add (n / 2 ^ k * 2 ^ k) (n % 2 ^ k) ≡ n
+unfolding add
+add-parts n k = xor-shifted (n / 2 ^ k) k (n % 2 ^ k) (mod-lt n (pow-pos k)) ∙ split n k
+
+module _ (f g : ℕ → ℕ) (lf : Linear f) (lg : Linear g) where
+  at-digit : (q m : ℕ) → q < 2 → f m ≡ g m → f (q * m) ≡ g (q * m)
+  at-digit zero m h e = rw zero-mul (linear-zero f lf ∙ sym (linear-zero g lg))
+  at-digit (suc zero) m h e = rw one-mul e
+  at-digit (suc (suc q)) m h e = absurd (omega arith)
+
+  pub agree : (k : ℕ) → ((i : ℕ) → i < k → f (2 ^ i) ≡ g (2 ^ i)) → (n : ℕ) → n < 2 ^ k → f n ≡ g n
+  agree zero same n h = rw (lt-one h) (linear-zero f lf ∙ sym (linear-zero g lg))
+  agree (suc k) same n h =
+      let q : n / 2 ^ k < 2 = shr-lt 1 k (rw one-add h) in
+      ap f (sym (add-parts n k))
+      ∙ lf (n / 2 ^ k * 2 ^ k) (n % 2 ^ k)
+      ∙ ap₂ add (at-digit (n / 2 ^ k) (2 ^ k) q (same k (omega arith)))
+          (agree k (λ i l. same i (omega arith)) (n % 2 ^ k) (mod-lt n (pow-pos k)))
+      ∙ sym (lg (n / 2 ^ k * 2 ^ k) (n % 2 ^ k))
+      ∙ ap g (add-parts n k)

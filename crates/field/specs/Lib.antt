@@ -1,0 +1,5 @@
+-- What this crate promises.
+--   Number     == the numbers 0 to 255: sum, product, power
+--   Polynomial == the product as the standard prints it
+pub mod Number
+pub mod Polynomial
