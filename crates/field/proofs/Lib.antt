@@ -1,3 +1,5 @@
 -- The laws of the numbers 0 to 255.
 pub mod Xor
+pub mod Tests
 pub mod Linear
+pub mod Product
