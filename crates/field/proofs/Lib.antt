@@ -3,3 +3,6 @@ pub mod Xor
 pub mod Tests
 pub mod Linear
 pub mod Product
+pub mod Printed
+pub mod Powers
+pub mod Logarithms

@@ -46,6 +46,11 @@ scaled (suc (suc x)) y c h k = absurd (omega arith)
 pub linear-bit : (c : ℕ) → Linear (λ a. a % 2 * c)
 linear-bit c a b = ap (λ x. x * c) (add-odd a b) ∙ scaled (a % 2) (b % 2) c (omega arith) (omega arith)
 
+pub linear-times : (q : ℕ) → q < 2 → Linear (λ a. q * a)
+linear-times zero h a b = simp (zero-mul, zero-add)
+linear-times (suc zero) h a b = simp one-mul
+linear-times (suc (suc q)) h a b = absurd (omega arith)
+
 -- a number is the sum of its part from bit k on and its part below bit k
 pub add-parts : (n k : ℕ) → add (n / 2 ^ k * 2 ^ k) (n % 2 ^ k) ≡ n
 unfolding add
@@ -64,7 +69,7 @@ module _ (f g : ℕ → ℕ) (lf : Linear f) (lg : Linear g) where
       ap f (sym (add-parts n k))
       ∙ lf (n / 2 ^ k * 2 ^ k) (n % 2 ^ k)
       ∙ ap₂ add (at-digit (n / 2 ^ k) (2 ^ k) q (same k (omega arith)))
-          (agree k (λ i l. same i (omega arith)) (n % 2 ^ k) (mod-lt n (pow-pos k)))
+      (agree k (λ i l. same i (omega arith)) (n % 2 ^ k) (mod-lt n (pow-pos k)))
       ∙ sym (lg (n / 2 ^ k * 2 ^ k) (n % 2 ^ k))
       ∙ ap g (add-parts n k)
 
@@ -93,9 +98,9 @@ pub agree₂ : (f g : ℕ → ℕ → ℕ) → Bilinear f → Bilinear g → (k 
 agree₂ f g lf lg k t a b ha hb =
     agree (λ x. f x b) (λ x. g x b) (lf .left b) (lg .left b) k
     (λ i hi.
-        agree₁ (f (2 ^ i)) (g (2 ^ i)) (lf .right (2 ^ i)) (lg .right (2 ^ i)) k
-        (all-at (λ x. equal (f (2 ^ x)) (g (2 ^ x)) k) k t i hi)
-        b hb)
+    agree₁ (f (2 ^ i)) (g (2 ^ i)) (lf .right (2 ^ i)) (lg .right (2 ^ i)) k
+    (all-at (λ x. equal (f (2 ^ x)) (g (2 ^ x)) k) k t i hi)
+    b hb)
     a ha
 
 pub agree₃ : (f g : ℕ → ℕ → ℕ → ℕ) → Trilinear f → Trilinear g → (k : ℕ) → T (equal₃ f g k)
@@ -103,7 +108,7 @@ pub agree₃ : (f g : ℕ → ℕ → ℕ → ℕ) → Trilinear f → Trilinear
 agree₃ f g lf lg k t a b c ha hb hc =
     agree (λ x. f x b c) (λ x. g x b c) (lf .first b c) (lg .first b c) k
     (λ i hi.
-        agree₂ (f (2 ^ i)) (g (2 ^ i)) (lf .rest (2 ^ i)) (lg .rest (2 ^ i)) k
-        (all-at (λ x. equal₂ (f (2 ^ x)) (g (2 ^ x)) k) k t i hi)
-        b c hb hc)
+    agree₂ (f (2 ^ i)) (g (2 ^ i)) (lf .rest (2 ^ i)) (lg .rest (2 ^ i)) k
+    (all-at (λ x. equal₂ (f (2 ^ x)) (g (2 ^ x)) k) k t i hi)
+    b c hb hc)
     a ha

@@ -13,7 +13,7 @@ use lib.Dec.{T, eqb, eqb→eq}
 use lib.Pow.{mod-mod-pow, field}
 use Rattle.field.specs.Number.{modulus, add, double, byBits, mul}
 use Rattle.field.proofs.Xor.{sums, add-zero, zero-add, add-below}
-use Rattle.field.proofs.Linear.{Linear, linear-zero, linear-add, linear-shift, linear-shr, linear-bit, linear-mod, Bilinear, Trilinear, agree₁, agree₂, agree₃}
+use Rattle.field.proofs.Linear.{Linear, linear-zero, linear-add, linear-shift, linear-shr, linear-bit, linear-times, linear-mod, Bilinear, Trilinear, agree₁, agree₂, agree₃}
 use Rattle.field.proofs.Tests.{all-equal}
 
 -- doubling with bytes alone: the bits below bit 7 shifted, and 29 where bit 7 is set
@@ -38,16 +38,10 @@ byBits-zero : (x b : ℕ) → byBits 0 x b ≡ 0
 unfolding byBits
 byBits-zero x b = refl
 
--- a bit times a sum
-bit-add : (q x y : ℕ) → q < 2 → q * add x y ≡ add (q * x) (q * y)
-bit-add zero x y h = simp (N.zero-mul, zero-add)
-bit-add (suc zero) x y h = simp N.one-mul
-bit-add (suc (suc q)) x y h = absurd (omega arith)
-
 byBits-linear-left : (k b : ℕ) → Linear (λ x. byBits k x b)
 byBits-linear-left zero b x y = simp (byBits-zero, sums)
 byBits-linear-left (suc k) b x y =
-    simp (byBits-suc, linear-double x y, byBits-linear-left k (b / 2) (double x) (double y), bit-add (b % 2) x y (omega arith), sums)
+    simp (byBits-suc, linear-double x y, byBits-linear-left k (b / 2) (double x) (double y), linear-times (b % 2) (omega arith) x y, sums)
 
 byBits-linear-right : (k x : ℕ) → Linear (λ b. byBits k x b)
 byBits-linear-right zero x a b = simp (byBits-zero, sums)
@@ -99,7 +93,7 @@ low-mul a b =
     let e : a % 256 % 256 ≡ a % 256 = omega arith in
     ap (λ x. byBits 8 x b) e
 
-mul-bilinear : Bilinear mul
+pub mul-bilinear : Bilinear mul
 mul-bilinear = record { left = λ c a b. add-mul a b c; right = mul-add }
 
 swapped-bilinear : Bilinear (λ a b. mul b a)
@@ -117,14 +111,18 @@ left-trilinear = record {
   first = λ b c x y. ap (λ z. mul z c) (add-mul x y b) ∙ add-mul (mul x b) (mul y b) c;
   rest = λ a. record {
     left = λ c x y. ap (λ z. mul z c) (mul-add a x y) ∙ add-mul (mul a x) (mul a y) c;
-    right = λ b. mul-add (mul a b) } }
+    right = λ b. mul-add (mul a b);
+  };
+}
 
 right-trilinear : Trilinear (λ a b c. mul a (mul b c))
 right-trilinear = record {
   first = λ b c x y. add-mul x y (mul b c);
   rest = λ a. record {
     left = λ c x y. ap (mul a) (add-mul x y c) ∙ mul-add a (mul x c) (mul y c);
-    right = λ b x y. ap (mul a) (mul-add b x y) ∙ mul-add a (mul b x) (mul b y) } }
+    right = λ b x y. ap (mul a) (mul-add b x y) ∙ mul-add a (mul b x) (mul b y);
+  };
+}
 
 assoc-byte : (a b c : ℕ) → a < 256 → b < 256 → c < 256 → mul (mul a b) c ≡ mul a (mul b c)
 unfolding mul byBits double add modulus

@@ -3,3 +3,4 @@
 --   Polynomial == the product as the standard prints it
 pub mod Number
 pub mod Polynomial
+pub mod Promise

@@ -1,0 +1,68 @@
+use mathlib.Core.Path.{_≡_, refl, sym, ap, _∙_}
+use mathlib.Core.List.{List, [], _∷_, _++_}
+use Prim.Native.Nat.{ℕ, _≤_, _<_, _+_, _-_, _*_, _/_, _%_, _^_}
+use native.Mathlib.Omega.{arith}
+use lib.ListN.{length, getD, set, take, drop, length-set}
+use borrow.Author.Needs.{needs}
+use Rattle.field.proofs.lookups.divide.Statement.{statement}
+use Rattle.field.proofs.lookups.divide.Tie as tie
+use Rattle.field.proofs.lookups.divide.Reads as reads
+use Rattle.field.proofs.lookups.divide.Lts as lts
+use Rattle.field.proofs.lookups.wide.Reads as wide-reads
+use Rattle.field.proofs.tables.logarithm.Reads as logarithm-reads
+use Rattle.field.proofs.tables.power_of_two.Reads as power-of-two-reads
+
+-- src/lookups.rt:47:9
+returns : tie.Need-returns
+returns c = search needs
+
+-- src/lookups.rt:50:9
+returns-2 : tie.Need-returns-2
+returns-2 c = search needs
+
+-- src/lookups.rt:52:18
+logarithm-requires : tie.Need-logarithm-requires
+logarithm-requires c κs = search needs
+
+-- src/lookups.rt:52:13
+wide-requires : tie.Need-wide-requires
+wide-requires c κs = search needs
+
+-- src/lookups.rt:52:13
+add-t : tie.Need-add-t
+add-t c = search needs
+
+-- src/lookups.rt:52:45
+logarithm-requires-2 : tie.Need-logarithm-requires-2
+logarithm-requires-2 c κs = search needs
+
+-- src/lookups.rt:52:40
+wide-requires-2 : tie.Need-wide-requires-2
+wide-requires-2 c κs = search needs
+
+-- src/lookups.rt:52:13
+sub-t : tie.Need-sub-t
+sub-t c = search needs
+
+-- src/lookups.rt:53:22
+power-of-two-requires : tie.Need-power-of-two-requires
+power-of-two-requires c κs = search needs
+
+-- src/lookups.rt:43:1
+returns-3 : tie.Need-returns-3
+returns-3 c = search needs
+
+pub divide-spec : {M : Type 1} → statement M
+divide-spec =
+    tie.close
+    (tie.spec
+    returns
+    returns-2
+    logarithm-requires
+    wide-requires
+    add-t
+    logarithm-requires-2
+    wide-requires-2
+    sub-t
+    power-of-two-requires
+    returns-3)
