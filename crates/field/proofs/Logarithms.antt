@@ -138,3 +138,19 @@ mul-cancel a b c ha hb h k e = sym (back-to a ha) ∙ ap (λ x. mul x (inverse c
   where
     back-to : (x : ℕ) → x < 256 → mul (mul x c) (inverse c) ≡ x
     back-to x hx = mul-assoc x c (inverse c) ∙ ap (mul x) (mul-inverse c h k) ∙ mul-one x hx
+
+-- what the tables' users compute: a product, a power and a quotient by logarithms
+pub power-by-log : (l t : ℕ) → power 2 (l * (t % 255) % 255) ≡ power (power 2 l) t
+power-by-log l t =
+    power-wrap (l * (t % 255))
+    ∙ ap (power 2) (N.mul-comm l (t % 255))
+    ∙ sym (power-mul 2 (t % 255) l)
+    ∙ ap (λ x. power x l) (power-wrap t)
+    ∙ power-mul 2 t l
+    ∙ ap (power 2) (N.mul-comm t l)
+    ∙ sym (power-mul 2 l t)
+
+pub quotient-by-logs : (l k : ℕ) → k ≤ 255 → mul (power 2 (l + 255 - k)) (power 2 k) ≡ power 2 l
+quotient-by-logs l k h =
+    let e : l + 255 - k + k ≡ l + 255 = omega arith in
+    sym (power-add 2 (l + 255 - k) k) ∙ ap (power 2) e ∙ power-add 2 l 255 ∙ ap (mul (power 2 l)) power-turn ∙ mul-one (power 2 l) (power-below 2 l)

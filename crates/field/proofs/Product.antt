@@ -62,7 +62,7 @@ mul-zero a = linear-zero (mul a) (mul-add a)
 pub zero-mul : (b : ℕ) → mul 0 b ≡ 0
 zero-mul b = linear-zero (λ a. mul a b) (λ x y. add-mul x y b)
 
-bit-below : (q x : ℕ) → q < 2 → x < 256 → q * x < 256
+pub bit-below : (q x : ℕ) → q < 2 → x < 256 → q * x < 256
 bit-below zero x h k = omega arith
 bit-below (suc zero) x h k = omega arith
 bit-below (suc (suc q)) x h k = absurd (omega arith)
@@ -145,3 +145,34 @@ one-mul a h = mul-comm 1 a ∙ mul-one a h
 pub mul-two : (a : ℕ) → a < 256 → mul a 2 ≡ double a
 unfolding mul byBits double add modulus
 mul-two = agree₁ (λ a. mul a 2) double (λ x y. add-mul x y 2) linear-double 8 tt
+
+-- the product by the bits of one factor, where each doubling is a product by 2
+unfoldable pub bitSum : ℕ → ℕ → ℕ → ℕ
+bitSum zero x b = 0
+bitSum (suc k) x b = add (b % 2 * x) (bitSum k (mul x 2) (b / 2))
+
+byBits-sum : (k x b : ℕ) → x < 256 → byBits k x b ≡ bitSum k x b
+unfolding bitSum
+byBits-sum zero x b h = byBits-zero x b
+byBits-sum (suc k) x b h =
+    rw (byBits-suc, ← mul-two x h) (ap (add (b % 2 * x)) (byBits-sum k (mul x 2) (b / 2) (mul-below x 2)))
+
+pub mul-bits : (a b : ℕ) → a < 256 → mul a b ≡ bitSum 8 a b
+unfolding mul
+mul-bits a b h =
+    let e : a % 256 ≡ a = omega arith in
+    ap (λ x. byBits 8 x b) e ∙ byBits-sum 8 a b h
+
+pub mul-eight-bits : (a b : ℕ) → a < 256
+    → let a1 = mul a 2 in
+      let a2 = mul a1 2 in
+      let a3 = mul a2 2 in
+      let a4 = mul a3 2 in
+      let a5 = mul a4 2 in
+      let a6 = mul a5 2 in
+      let a7 = mul a6 2 in
+      mul a b
+      ≡ add (add (add (add (b % 2 * a) (b / 2 % 2 * a1)) (b / 4 % 2 * a2)) (b / 8 % 2 * a3))
+          (add (add (add (b / 16 % 2 * a4) (b / 32 % 2 * a5)) (b / 64 % 2 * a6)) (b / 128 % 2 * a7))
+unfolding bitSum
+mul-eight-bits a b h = mul-bits a b h ∙ simp (N.div-div-eq-div-mul, sums)

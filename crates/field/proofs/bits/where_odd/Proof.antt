@@ -1,19 +1,17 @@
-use mathlib.Core.Path.{_≡_, refl, sym, ap, _∙_}
-use mathlib.Core.List.{List, [], _∷_, _++_}
-use Prim.Native.Nat.{ℕ, _≤_, _<_, _+_, _-_, _*_, _/_, _%_, _^_}
+-- `field::where_odd` meets its contract: a bit times a byte is a byte.
+-- Assumes nothing.
+use Rattle.field.proofs.Product.{bit-below}
 use native.Mathlib.Omega.{arith}
-use lib.ListN.{length, getD, set, take, drop, length-set}
+use Prim.Native.Nat.{_%_}
 use borrow.Author.Needs.{needs}
 use Rattle.field.proofs.bits.where_odd.Statement.{statement}
 use Rattle.field.proofs.bits.where_odd.Tie as tie
 use Rattle.field.proofs.bits.where_odd.Reads as reads
 use Rattle.field.proofs.bits.where_odd.Lts as lts
 
--- src/bits.rt:24:5
 mul-result : tie.Need-mul-result
-mul-result c = search needs
+mul-result c = record { fits = bit-below (c .args .c % 2) (c .args .x) (omega arith) (search needs) }
 
--- src/bits.rt:21:1
 returns : tie.Need-returns
 returns c = search needs
 

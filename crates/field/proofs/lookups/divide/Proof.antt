@@ -1,8 +1,12 @@
-use mathlib.Core.Path.{_≡_, refl, sym, ap, _∙_}
-use mathlib.Core.List.{List, [], _∷_, _++_}
-use Prim.Native.Nat.{ℕ, _≤_, _<_, _+_, _-_, _*_, _/_, _%_, _^_}
+-- `field::divide` meets its contract: where neither number is 0, the power of 2 whose exponent is the difference of the logarithms, plus
+-- 255 so that it is not below 0, is the quotient.
+-- Assumes nothing.
+use mathlib.Core.Path.{sym, ap, _∙_}
+use Rattle.field.proofs.Product.{mul-below, zero-mul}
+use Rattle.field.proofs.Powers.{power-below}
+use Rattle.field.proofs.Logarithms.{quotient-by-logs}
 use native.Mathlib.Omega.{arith}
-use lib.ListN.{length, getD, set, take, drop, length-set}
+use mathlib.Core.Path.{refl}
 use borrow.Author.Needs.{needs}
 use Rattle.field.proofs.lookups.divide.Statement.{statement}
 use Rattle.field.proofs.lookups.divide.Tie as tie
@@ -12,45 +16,35 @@ use Rattle.field.proofs.lookups.wide.Reads as wide-reads
 use Rattle.field.proofs.tables.logarithm.Reads as logarithm-reads
 use Rattle.field.proofs.tables.power_of_two.Reads as power-of-two-reads
 
--- src/lookups.rt:47:9
 returns : tie.Need-returns
-returns c = search needs
+returns c = record { divisor = search needs; number = refl }
 
--- src/lookups.rt:50:9
 returns-2 : tie.Need-returns-2
-returns-2 c = search needs
+returns-2 c = record { divisor = search needs; small = search needs; value = cc (zero-mul (c .before .before .args .b)) }
 
--- src/lookups.rt:52:18
 logarithm-requires : tie.Need-logarithm-requires
 logarithm-requires c κs = search needs
 
--- src/lookups.rt:52:13
 wide-requires : tie.Need-wide-requires
 wide-requires c κs = search needs
 
--- src/lookups.rt:52:13
 add-t : tie.Need-add-t
 add-t c = search needs
 
--- src/lookups.rt:52:45
 logarithm-requires-2 : tie.Need-logarithm-requires-2
 logarithm-requires-2 c κs = search needs
 
--- src/lookups.rt:52:40
 wide-requires-2 : tie.Need-wide-requires-2
 wide-requires-2 c κs = search needs
 
--- src/lookups.rt:52:13
 sub-t : tie.Need-sub-t
 sub-t c = search needs
 
--- src/lookups.rt:53:22
 power-of-two-requires : tie.Need-power-of-two-requires
 power-of-two-requires c κs = search needs
 
--- src/lookups.rt:43:1
 returns-3 : tie.Need-returns-3
-returns-3 c = search needs
+returns-3 c = record { divisor = search needs; small = search needs; value = cc (quotient-by-logs (c .before .before .before .wide .result) (c .before .wide2 .result) (search needs)) }
 
 pub divide-spec : {M : Type 1} → statement M
 divide-spec =

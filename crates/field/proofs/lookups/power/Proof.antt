@@ -1,8 +1,11 @@
-use mathlib.Core.Path.{_≡_, refl, sym, ap, _∙_}
-use mathlib.Core.List.{List, [], _∷_, _++_}
-use Prim.Native.Nat.{ℕ, _≤_, _<_, _+_, _-_, _*_, _/_, _%_, _^_}
+-- `field::power` meets its contract: the logarithm times the exponent is an exponent of 2, and exponents of 2 wrap at 255.
+-- Assumes nothing.
+use mathlib.Core.Path.{sym, ap, _∙_}
+use Rattle.field.proofs.Powers.{power-zero, zero-power}
+use Rattle.field.proofs.Logarithms.{power-by-log}
 use native.Mathlib.Omega.{arith}
-use lib.ListN.{length, getD, set, take, drop, length-set}
+use Prim.Native.Nat.{_%_}
+use native.Mathlib.Nat.{mul-le-mul}
 use borrow.Author.Needs.{needs}
 use Rattle.field.proofs.lookups.power.Statement.{statement}
 use Rattle.field.proofs.lookups.power.Tie as tie
@@ -12,33 +15,26 @@ use Rattle.field.proofs.lookups.wide.Reads as wide-reads
 use Rattle.field.proofs.tables.logarithm.Reads as logarithm-reads
 use Rattle.field.proofs.tables.power_of_two.Reads as power-of-two-reads
 
--- src/lookups.rt:34:9
 returns : tie.Need-returns
-returns c = search needs
+returns c = record { value = cc (power-zero (c .before .args .a)) }
 
--- src/lookups.rt:37:9
 returns-2 : tie.Need-returns-2
-returns-2 c = search needs
+returns-2 c = record { value = cc (zero-power (c .before .before .args .t) (search needs)) }
 
--- src/lookups.rt:39:23
 logarithm-requires : tie.Need-logarithm-requires
 logarithm-requires c κs = search needs
 
--- src/lookups.rt:39:18
 wide-requires : tie.Need-wide-requires
 wide-requires c κs = search needs
 
--- src/lookups.rt:39:18
 mul-power-of-two : tie.Need-mul-power-of-two
-mul-power-of-two c = search needs
+mul-power-of-two c = record { fits = omega (arith, mul-le-mul {n₁ = c .wide .result} {m₁ = c .before .before .before .before .args .t % 255} {n₂ = 255} {m₂ = 254} (omega arith) (omega arith)) }
 
--- src/lookups.rt:39:5
 power-of-two-requires : tie.Need-power-of-two-requires
 power-of-two-requires c κs = search needs
 
--- src/lookups.rt:30:1
 returns-3 : tie.Need-returns-3
-returns-3 c = search needs
+returns-3 c = record { value = cc (power-by-log (c .before .wide .result) (c .before .before .before .before .before .args .t)) }
 
 pub power-spec : {M : Type 1} → statement M
 power-spec =

@@ -1,21 +1,20 @@
-use mathlib.Core.Path.{_≡_, refl, sym, ap, _∙_}
-use mathlib.Core.List.{List, [], _∷_, _++_}
-use Prim.Native.Nat.{ℕ, _≤_, _<_, _+_, _-_, _*_, _/_, _%_, _^_}
+-- `field::logarithm` meets its contract: the table is the computed list of the logarithms, whose rule holds at each entry but that of 0.
+-- Assumes nothing.
 use native.Mathlib.Omega.{arith}
-use lib.ListN.{length, getD, set, take, drop, length-set}
+use Rattle.field.specs.Number.{modulus, add, double}
+use Rattle.field.proofs.Logarithms.{powers, place, places, logarithms, log, log-below, power-log}
 use borrow.Author.Needs.{needs}
 use Rattle.field.proofs.tables.logarithm.Statement.{statement}
 use Rattle.field.proofs.tables.logarithm.Tie as tie
 use Rattle.field.proofs.tables.logarithm.Reads as reads
 use Rattle.field.proofs.tables.logarithm.Lts as lts
 
--- src/tables.rt:794:5
 array-read-result : tie.Need-array-read-result
 array-read-result c = search needs
 
--- src/tables.rt:790:1
 returns : tie.Need-returns
-returns c = search needs
+unfolding log logarithms place places powers double add modulus
+returns c = (log-below (c .args .a) (search needs) (search needs), power-log (c .args .a) (search needs) (search needs))
 
 pub logarithm-spec : {M : Type 1} → statement M
 logarithm-spec = tie.close (tie.spec array-read-result returns)

@@ -1,21 +1,20 @@
-use mathlib.Core.Path.{_≡_, refl, sym, ap, _∙_}
-use mathlib.Core.List.{List, [], _∷_, _++_}
-use Prim.Native.Nat.{ℕ, _≤_, _<_, _+_, _-_, _*_, _/_, _%_, _^_}
+-- `field::power_of_two` meets its contract: the table is the computed list of the powers of 2, whose rule holds at each entry.
+-- Assumes nothing.
 use native.Mathlib.Omega.{arith}
-use lib.ListN.{length, getD, set, take, drop, length-set}
+use Rattle.field.specs.Number.{modulus, add, double}
+use Rattle.field.proofs.Logarithms.{powers, power-at}
 use borrow.Author.Needs.{needs}
 use Rattle.field.proofs.tables.power_of_two.Statement.{statement}
 use Rattle.field.proofs.tables.power_of_two.Tie as tie
 use Rattle.field.proofs.tables.power_of_two.Reads as reads
 use Rattle.field.proofs.tables.power_of_two.Lts as lts
 
--- src/tables.rt:787:5
 array-read-result : tie.Need-array-read-result
 array-read-result c = search needs
 
--- src/tables.rt:783:1
 returns : tie.Need-returns
-returns c = search needs
+unfolding powers double add modulus
+returns c = power-at 512 (c .args .t) (search needs)
 
 pub power-of-two-spec : {M : Type 1} → statement M
 power-of-two-spec = tie.close (tie.spec array-read-result returns)
