@@ -6,3 +6,4 @@ pub mod Product
 pub mod Printed
 pub mod Powers
 pub mod Logarithms
+pub mod Numbers

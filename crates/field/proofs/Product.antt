@@ -165,14 +165,14 @@ mul-bits a b h =
 
 pub mul-eight-bits : (a b : ℕ) → a < 256
     → let a1 = mul a 2 in
-      let a2 = mul a1 2 in
-      let a3 = mul a2 2 in
-      let a4 = mul a3 2 in
-      let a5 = mul a4 2 in
-      let a6 = mul a5 2 in
-      let a7 = mul a6 2 in
-      mul a b
-      ≡ add (add (add (add (b % 2 * a) (b / 2 % 2 * a1)) (b / 4 % 2 * a2)) (b / 8 % 2 * a3))
-          (add (add (add (b / 16 % 2 * a4) (b / 32 % 2 * a5)) (b / 64 % 2 * a6)) (b / 128 % 2 * a7))
+    let a2 = mul a1 2 in
+    let a3 = mul a2 2 in
+    let a4 = mul a3 2 in
+    let a5 = mul a4 2 in
+    let a6 = mul a5 2 in
+    let a7 = mul a6 2 in
+    mul a b
+    ≡ add (add (add (add (b % 2 * a) (b / 2 % 2 * a1)) (b / 4 % 2 * a2)) (b / 8 % 2 * a3))
+    (add (add (add (b / 16 % 2 * a4) (b / 32 % 2 * a5)) (b / 64 % 2 * a6)) (b / 128 % 2 * a7))
 unfolding bitSum
 mul-eight-bits a b h = mul-bits a b h ∙ simp (N.div-div-eq-div-mul, sums)

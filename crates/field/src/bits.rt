@@ -36,6 +36,9 @@ pub fn times(a: u8, c: u8) -> u8
     let a6 = double(a5);
     let a7 = double(a6);
     let low = where_odd(c, a) ^ where_odd(c / 2, a1) ^ where_odd(c / 4, a2) ^ where_odd(c / 8, a3);
-    let high = where_odd(c / 16, a4) ^ where_odd(c / 32, a5) ^ where_odd(c / 64, a6) ^ where_odd(c / 128, a7);
+    let high = where_odd(c / 16, a4)
+        ^ where_odd(c / 32, a5)
+        ^ where_odd(c / 64, a6)
+        ^ where_odd(c / 128, a7);
     low ^ high
 }

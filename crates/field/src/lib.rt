@@ -10,7 +10,9 @@
 // product by 2, and the sum is `add` or the operator `^`.
 mod answers;
 mod bits;
-mod lookups;
+mod dividing;
+mod multiplying;
+mod raising;
 mod tables;
 
 // The answer of a division: a number, or the refusal's number.
@@ -22,6 +24,6 @@ pub use bits::double;
 pub use bits::times;
 
 // By the tables of powers of 2 and of logarithms.
-pub use lookups::divide;
-pub use lookups::mul;
-pub use lookups::power;
+pub use dividing::divide;
+pub use multiplying::mul;
+pub use raising::power;

@@ -793,3 +793,10 @@ pub fn logarithm(a: u8) -> u8
 {
     LOGARITHMS[a as usize]
 }
+
+// A byte as an index.
+pub fn wide(x: u8) -> usize
+    ensures { λ r. ⌜ (r ≡ x) × (r < 256) ⌝ }
+{
+    x as usize
+}

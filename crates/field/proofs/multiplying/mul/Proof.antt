@@ -4,11 +4,11 @@ use mathlib.Core.Path.{sym, ap, _∙_}
 use Rattle.field.proofs.Product.{mul-zero, zero-mul}
 use Rattle.field.proofs.Powers.{power-add}
 use borrow.Author.Needs.{needs}
-use Rattle.field.proofs.lookups.mul.Statement.{statement}
-use Rattle.field.proofs.lookups.mul.Tie as tie
-use Rattle.field.proofs.lookups.mul.Reads as reads
-use Rattle.field.proofs.lookups.mul.Lts as lts
-use Rattle.field.proofs.lookups.wide.Reads as wide-reads
+use Rattle.field.proofs.multiplying.mul.Statement.{statement}
+use Rattle.field.proofs.multiplying.mul.Tie as tie
+use Rattle.field.proofs.multiplying.mul.Reads as reads
+use Rattle.field.proofs.multiplying.mul.Lts as lts
+use Rattle.field.proofs.tables.wide.Reads as wide-reads
 use Rattle.field.proofs.tables.logarithm.Reads as logarithm-reads
 use Rattle.field.proofs.tables.power_of_two.Reads as power-of-two-reads
 

@@ -8,11 +8,11 @@ use Rattle.field.proofs.Logarithms.{quotient-by-logs}
 use native.Mathlib.Omega.{arith}
 use mathlib.Core.Path.{refl}
 use borrow.Author.Needs.{needs}
-use Rattle.field.proofs.lookups.divide.Statement.{statement}
-use Rattle.field.proofs.lookups.divide.Tie as tie
-use Rattle.field.proofs.lookups.divide.Reads as reads
-use Rattle.field.proofs.lookups.divide.Lts as lts
-use Rattle.field.proofs.lookups.wide.Reads as wide-reads
+use Rattle.field.proofs.dividing.divide.Statement.{statement}
+use Rattle.field.proofs.dividing.divide.Tie as tie
+use Rattle.field.proofs.dividing.divide.Reads as reads
+use Rattle.field.proofs.dividing.divide.Lts as lts
+use Rattle.field.proofs.tables.wide.Reads as wide-reads
 use Rattle.field.proofs.tables.logarithm.Reads as logarithm-reads
 use Rattle.field.proofs.tables.power_of_two.Reads as power-of-two-reads
 

@@ -7,11 +7,11 @@ use native.Mathlib.Omega.{arith}
 use Prim.Native.Nat.{_%_}
 use native.Mathlib.Nat.{mul-le-mul}
 use borrow.Author.Needs.{needs}
-use Rattle.field.proofs.lookups.power.Statement.{statement}
-use Rattle.field.proofs.lookups.power.Tie as tie
-use Rattle.field.proofs.lookups.power.Reads as reads
-use Rattle.field.proofs.lookups.power.Lts as lts
-use Rattle.field.proofs.lookups.wide.Reads as wide-reads
+use Rattle.field.proofs.raising.power.Statement.{statement}
+use Rattle.field.proofs.raising.power.Tie as tie
+use Rattle.field.proofs.raising.power.Reads as reads
+use Rattle.field.proofs.raising.power.Lts as lts
+use Rattle.field.proofs.tables.wide.Reads as wide-reads
 use Rattle.field.proofs.tables.logarithm.Reads as logarithm-reads
 use Rattle.field.proofs.tables.power_of_two.Reads as power-of-two-reads
 
