@@ -7,3 +7,4 @@ pub mod Printed
 pub mod Powers
 pub mod Logarithms
 pub mod Numbers
+pub mod Settled

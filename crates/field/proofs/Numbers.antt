@@ -106,6 +106,17 @@ pub number-mul : (a b : ℕ) → number (mul a b) ≡ numbers .mul (number a) (n
 unfolding numbers number byte productOf
 number-mul a b = byte-path (mod-eq-of-lt (mul-below a b) ∙ sym (low-mul a (b % 256) ∙ mul-low a b))
 
+pub value-injective : (x y : numbers .K) → value x ≡ value y → x ≡ y
+value-injective x y e = sym (number-value x) ∙ ap number e ∙ number-value y
+
+pub value-add : (x y : numbers .K) → value (numbers .add x y) ≡ add (value x) (value y)
+unfolding numbers value sumOf
+value-add x y = refl
+
+pub value-mul : (x y : numbers .K) → value (numbers .mul x y) ≡ mul (value x) (value y)
+unfolding numbers value productOf
+value-mul x y = refl
+
 pub number-power : (a t : ℕ) → number (power a t) ≡ theory.power numbers (number a) t
 unfolding theory.power
 number-power a zero = ap number (power-zero a) ∙ number-one
