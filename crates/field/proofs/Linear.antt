@@ -1,16 +1,16 @@
 -- Functions that keep sums. Two of them that agree at the powers of 2 below 2ᵏ agree at every number below 2ᵏ, so that a law of the
 -- product is tested at powers of 2 alone. In order: what keeps sums; `agree`.
-use mathlib.Core.Path.{_≡_, refl, sym, ap, ap₂, _∙_}
+use mathlib.Core.Path.{_≡_, sym, ap, ap₂, _∙_}
 use mathlib.Core.Bool.{Bool}
-use Prim.Native.Nat.{ℕ, zero, suc, _+_, _*_, _/_, _%_, _^_, _<_}
-use native.Mathlib.Nat.{mod-lt, zero-mul, one-mul, pow-suc, mul-comm}
+use Prim.Native.Nat.{ℕ, zero, suc, _*_, _/_, _%_, _^_, _<_}
+use native.Mathlib.Nat.{mod-lt, zero-mul, one-mul}
 use native.Mathlib.Nat as N
 use native.Mathlib.Omega.{arith}
 use lib.Arith.{lt-one}
 use lib.Dec.{T, eqb}
 use lib.Bits.{differ, xor-block, xor-shifted}
 use lib.Pow.{pow-pos, split, shr-lt}
-use native.Mathlib.Numerals.{add-one, one-add}
+use native.Mathlib.Numerals.{one-add}
 use Rattle.field.specs.Number.{add}
 use Rattle.field.proofs.Xor.{sums, add-self, zero-add, add-zero, add-odd, add-shr, add-mod}
 use Rattle.field.proofs.Tests.{all, all-at, all-equal}

@@ -1,18 +1,17 @@
 -- The powers of 2 and their logarithms, as computed lists that the tables of the code convert to; the rule of each list, by one
 -- computed test over the whole list. In order: the lists and their rules; the 255 powers of 2 are all the non-zero numbers, each once;
 -- inverses, and what follows from them.
-use mathlib.Core.Path.{_≡_, refl, sym, ap, ap₂, _∙_}
+use mathlib.Core.Path.{_≡_, sym, ap, _∙_}
 use mathlib.Core.Bool.{Bool, true, false}
 use mathlib.Core.List.{List, [], _∷_}
-use Prim.Native.Nat.{ℕ, zero, suc, _+_, _-_, _*_, _/_, _%_, _^_, _<_, _≤_}
+use Prim.Native.Nat.{ℕ, zero, suc, _+_, _-_, _*_, _/_, _%_, _<_, _≤_}
 use native.Mathlib.Nat as N
 use native.Mathlib.Omega.{arith}
-use lib.Bits.{bitXor}
 use lib.Dec.{T, eqb, ltb, eqb→eq, ltb→lt}
 use lib.ListN.{getD}
-use Rattle.field.specs.Number.{modulus, add, double, byBits, mul, power}
-use Rattle.field.proofs.Tests.{all, all-at, all-equal}
-use Rattle.field.proofs.Product.{double-below, mul-below, mul-one, one-mul, mul-two, mul-zero, zero-mul, mul-comm, mul-assoc, mul-left-comm}
+use Rattle.field.specs.Number.{modulus, add, double, mul, power}
+use Rattle.field.proofs.Tests.{all, all-at}
+use Rattle.field.proofs.Product.{double-below, mul-one, one-mul, mul-two, zero-mul, mul-comm, mul-assoc}
 use Rattle.field.proofs.Powers.{power-zero, power-suc, power-below, power-add, power-mul, one-power}
 
 -- n numbers from x on, each the double of the one before

@@ -4,11 +4,11 @@
 --   number n == the element that n stands for: its low eight bits
 --   value x  == the number below 256 that an element is
 -- In order: the carrier; the field; `number` and `value` undo one another; they keep sums, products, powers, 0 and 1; γ = 2.
-use mathlib.Core.Path.{_≡_, refl, sym, ap, ap₂, _∙_}
+use mathlib.Core.Path.{_≡_, refl, sym, ap, _∙_}
 use mathlib.Core.HLevel.{isProp→PathP}
 use Prim.Native.Nat.{ℕ, zero, suc, _%_, _<_}
 use native.Mathlib.Bridge.{le-prop}
-use native.Mathlib.Nat.{mod-eq-of-lt, zero-lt-suc}
+use native.Mathlib.Nat.{mod-eq-of-lt}
 use native.Mathlib.Omega.{arith}
 use Rattle.theory.specs.Field.{Field}
 use Rattle.theory.specs.Power as theory
@@ -25,7 +25,8 @@ record Byte : Type 0 where
 byte-path : {x y : Byte} → x .at ≡ y .at → x ≡ y
 byte-path {x} {y} p = λ i. record {
   at = p i;
-  small = isProp→PathP (λ j. p j < 256) (λ j. le-prop {n = suc (p j)} {m = 256}) (x .small) (y .small) i }
+  small = isProp→PathP (λ j. p j < 256) (λ j. le-prop {n = suc (p j)} {m = 256}) (x .small) (y .small) i;
+}
 
 byte : ℕ → Byte
 byte n = record { at = n % 256; small = omega arith }
@@ -65,7 +66,8 @@ numbers = record {
   mul-one = λ x. byte-path (mul-one (x .at) (x .small));
   mul-add = λ x y z. byte-path (mul-add (x .at) (y .at) (z .at));
   one-not-zero = λ e. let z : _≡_ {A = ℕ} 1 0 = ap (λ (x : Byte). x .at) e in omega arith;
-  mul-inverse = λ x n. byte-path (mul-inverse (x .at) (positive x n) (x .small)) }
+  mul-inverse = λ x n. byte-path (mul-inverse (x .at) (positive x n) (x .small));
+}
 
 pub number : ℕ → numbers .K
 unfolding numbers

@@ -1,10 +1,10 @@
 -- Laws of powers. In order: clauses; sums and products of exponents; powers of 0 and 1.
-use mathlib.Core.Path.{_≡_, refl, sym, ap, ap₂, _∙_}
+use mathlib.Core.Path.{_≡_, refl, sym, ap, _∙_}
 use Prim.Native.Nat.{ℕ, zero, suc, _+_, _*_, _<_}
 use native.Mathlib.Nat as N
 use native.Mathlib.Omega.{arith}
 use Rattle.field.specs.Number.{mul, power}
-use Rattle.field.proofs.Product.{mul-below, mul-one, one-mul, mul-zero, mul-comm, mul-assoc, mul-left-comm}
+use Rattle.field.proofs.Product.{mul-below, mul-one, one-mul, mul-zero, mul-assoc}
 
 pub power-zero : (a : ℕ) → power a 0 ≡ 1
 unfolding power

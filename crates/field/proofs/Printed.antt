@@ -1,6 +1,6 @@
 -- The product that the crate works with is the printed one: polynomials multiplied out and divided by the modulus. Both keep sums in
 -- each factor, so that 64 computed cases are enough.
-use mathlib.Core.Path.{_≡_, refl, sym, ap, ap₂, _∙_}
+use mathlib.Core.Path.{_≡_, refl, ap, _∙_}
 use Prim.Native.Nat.{ℕ, zero, suc, _+_, _*_, _/_, _%_, _^_, _<_}
 use native.Mathlib.Omega.{arith}
 use Rattle.field.specs.Number.{modulus, add, double, byBits, mul}

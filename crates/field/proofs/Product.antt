@@ -2,17 +2,15 @@
 -- number back, as `mul-one`, wants it below 256. In order: doubling; the product keeps sums in each factor; it reads eight bits;
 -- commutative, associative; unit and zero.
 -- Not here: powers and inverses (`Powers`, `Logarithms`).
-use mathlib.Core.Path.{_≡_, refl, sym, ap, ap₂, _∙_}
-use mathlib.Core.Bool.{Bool}
-use Prim.Native.Nat.{ℕ, zero, suc, _+_, _*_, _/_, _%_, _^_, _<_}
+use mathlib.Core.Path.{_≡_, refl, sym, ap, _∙_}
+use Prim.Native.Nat.{ℕ, zero, suc, _*_, _/_, _%_, _^_, _<_}
 use native.Mathlib.Nat as N
 use native.Mathlib.Omega.{arith}
 use native.Mathlib.Numerals.{add-one}
-use lib.Bits.{bitXor, differ, digits, bitwise}
-use lib.Dec.{T, eqb, eqb→eq}
+use lib.Dec.{T}
 use lib.Pow.{mod-mod-pow, field}
 use Rattle.field.specs.Number.{modulus, add, double, byBits, mul}
-use Rattle.field.proofs.Xor.{sums, add-zero, zero-add, add-below}
+use Rattle.field.proofs.Xor.{sums, add-below}
 use Rattle.field.proofs.Linear.{Linear, linear-zero, linear-add, linear-shift, linear-shr, linear-bit, linear-times, linear-mod, Bilinear, Trilinear, agree₁, agree₂, agree₃}
 use Rattle.field.proofs.Tests.{all-equal}
 

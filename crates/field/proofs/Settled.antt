@@ -1,11 +1,11 @@
 -- What each public function promises settles its result: two results that one promise allows are equal. And for each, two wrong
 -- answers that the promise rules out. `times` has the promise of `mul`, so that both have one value.
 -- In order: `add`, `double`, `mul`, `times`, `power`, `divide`.
-use mathlib.Core.Path.{_≡_, refl, sym, ap, _∙_}
+use mathlib.Core.Path.{_≡_, sym, ap, _∙_}
 use Prim.Native.Nat.{ℕ, _<_}
 use native.Mathlib.Omega.{arith}
 use Rattle.field.specs.Number.{modulus, add, double, byBits, mul, power}
-use Rattle.field.specs.Promise.{SumIs, DoubleIs, ProductIs, PowerIs, QuotientIs, Divided, Barred}
+use Rattle.field.specs.Promise.{SumIs, DoubleIs, ProductIs, PowerIs, QuotientIs}
 use Rattle.field.specs.declared.answers.Quotient.{Quotient}
 use Rattle.field.specs.declared.answers.Quotient.the-variants.{Number, Refused}
 use Rattle.field.proofs.Logarithms.{mul-cancel}

@@ -1,6 +1,6 @@
 -- Facts about every number below a bound, by one test that is computed.
 --   all f n == the test f passes at each number below n
-use mathlib.Core.Path.{_≡_, refl, subst}
+use mathlib.Core.Path.{_≡_}
 use mathlib.Core.Bool.{Bool, true, false}
 use mathlib.Core.Logic.{_⊎_, inl, inr}
 use Prim.Native.Nat.{ℕ, zero, suc, _<_}

@@ -1,10 +1,9 @@
 -- Laws of the sum, which is exclusive or. In order: clauses by the lowest bit; group laws; bounds; multiples by a bit and by powers of 2.
-use mathlib.Core.Path.{_≡_, refl, sym, ap, ap₂, _∙_}
+use mathlib.Core.Path.{_≡_, refl, sym, ap, _∙_}
 use Prim.Native.Nat.{ℕ, zero, suc, _+_, _*_, _/_, _%_, _^_, _<_}
-use native.Mathlib.Nat.{mod-lt, not-suc-le-zero}
 use native.Mathlib.Omega.{arith}
 use lib.Arith.{bin-ind}
-use lib.Bits.{bitXor, differ, xor-step, xor-shr, xor-mod, xor-comm, xor-zero-r, xor-self, xor-lt, xor-block, xor-shifted}
+use lib.Bits.{differ, xor-step, xor-shr, xor-mod, xor-comm, xor-zero-r, xor-self, xor-lt}
 use Rattle.field.specs.Number.{add}
 
 pub add-half : (a b : ℕ) → add a b / 2 ≡ add (a / 2) (b / 2)

@@ -2,11 +2,8 @@
 -- Assumes nothing.
 use mathlib.Core.Path.{refl}
 use Rattle.field.specs.Number.{add}
-use borrow.Author.Needs.{needs}
 use Rattle.field.proofs.bits.add.Statement.{statement}
 use Rattle.field.proofs.bits.add.Tie as tie
-use Rattle.field.proofs.bits.add.Reads as reads
-use Rattle.field.proofs.bits.add.Lts as lts
 
 returns : tie.Need-returns
 unfolding add

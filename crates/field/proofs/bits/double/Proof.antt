@@ -6,8 +6,6 @@ use Rattle.field.proofs.Product.{double-byte, mul-two}
 use borrow.Author.Needs.{needs}
 use Rattle.field.proofs.bits.double.Statement.{statement}
 use Rattle.field.proofs.bits.double.Tie as tie
-use Rattle.field.proofs.bits.double.Reads as reads
-use Rattle.field.proofs.bits.double.Lts as lts
 
 mul-result : tie.Need-mul-result
 mul-result c = search needs

@@ -5,10 +5,6 @@ use Rattle.field.specs.Number.{add}
 use Rattle.field.proofs.Product.{mul-eight-bits}
 use Rattle.field.proofs.bits.times.Statement.{statement}
 use Rattle.field.proofs.bits.times.Tie as tie
-use Rattle.field.proofs.bits.times.Reads as reads
-use Rattle.field.proofs.bits.times.Lts as lts
-use Rattle.field.proofs.bits.double.Reads as double-reads
-use Rattle.field.proofs.bits.where_odd.Reads as where-odd-reads
 
 double-requires : tie.Need-double-requires
 double-requires c κs = search needs

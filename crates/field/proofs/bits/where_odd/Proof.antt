@@ -6,8 +6,6 @@ use Prim.Native.Nat.{_%_}
 use borrow.Author.Needs.{needs}
 use Rattle.field.proofs.bits.where_odd.Statement.{statement}
 use Rattle.field.proofs.bits.where_odd.Tie as tie
-use Rattle.field.proofs.bits.where_odd.Reads as reads
-use Rattle.field.proofs.bits.where_odd.Lts as lts
 
 mul-result : tie.Need-mul-result
 mul-result c = record { fits = bit-below (c .args .c % 2) (c .args .x) (omega arith) (search needs) }

@@ -1,23 +1,15 @@
 -- `field::divide` meets its contract: where neither number is 0, the power of 2 whose exponent is the difference of the logarithms, plus
 -- 255 so that it is not below 0, is the quotient.
 -- Assumes nothing.
-use mathlib.Core.Path.{sym, ap, _∙_}
-use Rattle.field.proofs.Product.{mul-below, zero-mul}
-use Rattle.field.proofs.Powers.{power-below}
+use Rattle.field.proofs.Product.{zero-mul}
 use Rattle.field.proofs.Logarithms.{quotient-by-logs}
 use native.Mathlib.Omega.{arith}
-use mathlib.Core.Path.{refl}
 use borrow.Author.Needs.{needs}
 use Rattle.field.proofs.dividing.divide.Statement.{statement}
 use Rattle.field.proofs.dividing.divide.Tie as tie
-use Rattle.field.proofs.dividing.divide.Reads as reads
-use Rattle.field.proofs.dividing.divide.Lts as lts
-use Rattle.field.proofs.tables.wide.Reads as wide-reads
-use Rattle.field.proofs.tables.logarithm.Reads as logarithm-reads
-use Rattle.field.proofs.tables.power_of_two.Reads as power-of-two-reads
 
 returns : tie.Need-returns
-returns c = record { divisor = search needs; number = refl }
+returns c = search needs
 
 returns-2 : tie.Need-returns-2
 returns-2 c = record { divisor = search needs; small = search needs; value = cc (zero-mul (c .before .before .args .b)) }

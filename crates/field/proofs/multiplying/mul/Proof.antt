@@ -1,16 +1,10 @@
 -- `field::mul` meets its contract: where neither factor is 0, the power of 2 whose exponent is the sum of the logarithms is the product.
 -- Assumes nothing.
-use mathlib.Core.Path.{sym, ap, _∙_}
 use Rattle.field.proofs.Product.{mul-zero, zero-mul}
 use Rattle.field.proofs.Powers.{power-add}
 use borrow.Author.Needs.{needs}
 use Rattle.field.proofs.multiplying.mul.Statement.{statement}
 use Rattle.field.proofs.multiplying.mul.Tie as tie
-use Rattle.field.proofs.multiplying.mul.Reads as reads
-use Rattle.field.proofs.multiplying.mul.Lts as lts
-use Rattle.field.proofs.tables.wide.Reads as wide-reads
-use Rattle.field.proofs.tables.logarithm.Reads as logarithm-reads
-use Rattle.field.proofs.tables.power_of_two.Reads as power-of-two-reads
 
 returns : tie.Need-returns
 returns c = record { value = cc (zero-mul (c .before .args .b)) }

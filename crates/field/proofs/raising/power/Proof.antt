@@ -1,6 +1,5 @@
 -- `field::power` meets its contract: the logarithm times the exponent is an exponent of 2, and exponents of 2 wrap at 255.
 -- Assumes nothing.
-use mathlib.Core.Path.{sym, ap, _∙_}
 use Rattle.field.proofs.Powers.{power-zero, zero-power}
 use Rattle.field.proofs.Logarithms.{power-by-log}
 use native.Mathlib.Omega.{arith}
@@ -9,11 +8,6 @@ use native.Mathlib.Nat.{mul-le-mul}
 use borrow.Author.Needs.{needs}
 use Rattle.field.proofs.raising.power.Statement.{statement}
 use Rattle.field.proofs.raising.power.Tie as tie
-use Rattle.field.proofs.raising.power.Reads as reads
-use Rattle.field.proofs.raising.power.Lts as lts
-use Rattle.field.proofs.tables.wide.Reads as wide-reads
-use Rattle.field.proofs.tables.logarithm.Reads as logarithm-reads
-use Rattle.field.proofs.tables.power_of_two.Reads as power-of-two-reads
 
 returns : tie.Need-returns
 returns c = record { value = cc (power-zero (c .before .args .a)) }

@@ -6,8 +6,6 @@ use Rattle.field.proofs.Logarithms.{powers, place, places, logarithms, 
 use borrow.Author.Needs.{needs}
 use Rattle.field.proofs.tables.logarithm.Statement.{statement}
 use Rattle.field.proofs.tables.logarithm.Tie as tie
-use Rattle.field.proofs.tables.logarithm.Reads as reads
-use Rattle.field.proofs.tables.logarithm.Lts as lts
 
 array-read-result : tie.Need-array-read-result
 array-read-result c = search needs

@@ -1,13 +1,10 @@
 -- `field::power_of_two` meets its contract: the table is the computed list of the powers of 2, whose rule holds at each entry.
 -- Assumes nothing.
-use native.Mathlib.Omega.{arith}
 use Rattle.field.specs.Number.{modulus, add, double}
 use Rattle.field.proofs.Logarithms.{powers, power-at}
 use borrow.Author.Needs.{needs}
 use Rattle.field.proofs.tables.power_of_two.Statement.{statement}
 use Rattle.field.proofs.tables.power_of_two.Tie as tie
-use Rattle.field.proofs.tables.power_of_two.Reads as reads
-use Rattle.field.proofs.tables.power_of_two.Lts as lts
 
 array-read-result : tie.Need-array-read-result
 array-read-result c = search needs
