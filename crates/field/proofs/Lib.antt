@@ -4,6 +4,7 @@ pub mod Tests
 pub mod Linear
 pub mod Product
 pub mod Printed
+pub mod Division
 pub mod Powers
 pub mod Logarithms
 pub mod Numbers

@@ -10,7 +10,7 @@ use Rattle.field.proofs.Linear.{Linear, Bilinear, linear-add, linear-sh
 use Rattle.field.proofs.Product.{mul-bilinear}
 
 -- the coefficient of xⁱ, times a number
-linear-coefficient : (i c : ℕ) → Linear (λ n. coefficient n i * c)
+pub linear-coefficient : (i c : ℕ) → Linear (λ n. coefficient n i * c)
 unfolding coefficient
 linear-coefficient i c a b = ap (λ x. x % 2 * c) (linear-shr i a b) ∙ linear-bit c (a / 2 ^ i) (b / 2 ^ i)
 
@@ -21,7 +21,7 @@ product-left (suc k) b =
     linear-add (λ a. product k a b) (λ a. coefficient b k * (a * 2 ^ k)) (product-left k b)
     (λ x y. ap (λ z. coefficient b k * z) (linear-shift k x y) ∙ linear-times (coefficient b k) (omega arith) (x * 2 ^ k) (y * 2 ^ k))
 
-product-right : (k a : ℕ) → Linear (product k a)
+pub product-right : (k a : ℕ) → Linear (product k a)
 unfolding product
 product-right zero a = λ x y. simp sums
 product-right (suc k) a = linear-add (product k a) (λ b. coefficient b k * (a * 2 ^ k)) (product-right k a) (linear-coefficient k (a * 2 ^ k))
