@@ -1,10 +1,12 @@
--- The powers of 2 and their logarithms, as computed lists that the tables of the code convert to; the rule of each list, by one
--- computed test over the whole list. In order: the lists and their rules; the 255 powers of 2 are all the non-zero numbers, each once;
--- inverses, and what follows from them.
+-- The powers of 2 and their logarithms. They are computed lists: that a table of the code is such a list is one computation over the
+-- whole table, at the function that reads it, and no entry is copied here. The rule of a list then holds at each entry.
+-- In order: the powers; the logarithms, by one computed test over the list for each part of their rule; the 255 powers of 2 are all
+-- the non-zero numbers, each once; exponents wrap at 255.
+-- Not here: inverses and quotients (`Inverses`).
 use mathlib.Core.Path.{_≡_, sym, ap, _∙_}
 use mathlib.Core.Bool.{Bool, true, false}
 use mathlib.Core.List.{List, [], _∷_}
-use Prim.Native.Nat.{ℕ, zero, suc, _+_, _-_, _*_, _/_, _%_, _<_, _≤_}
+use Prim.Native.Nat.{ℕ, zero, suc, _+_, _*_, _/_, _%_, _<_}
 use native.Mathlib.Nat as N
 use native.Mathlib.Omega.{arith}
 use lib.Dec.{T, eqb, ltb, eqb→eq, ltb→lt}
@@ -114,31 +116,11 @@ power-wrap t =
 pub power-not-zero : (t : ℕ) → power 2 t ≡ 0 → ⊥
 power-not-zero t z =
     let e : t + 254 * t ≡ 255 * t = omega arith in
-    let one : _≡_ {A = ℕ} 0 1 = sym (zero-mul (power 2 (254 * t))) ∙ ap (λ x. mul x (power 2 (254 * t))) (sym z) ∙ sym (power-add 2 t (254 * t)) ∙ ap (power 2) e ∙ turns t in
+    let one : mul (power 2 t) (power 2 (254 * t)) ≡ 1 = sym (power-add 2 t (254 * t)) ∙ ap (power 2) e ∙ turns t in
+    let none : mul (power 2 t) (power 2 (254 * t)) ≡ 0 = rw z (zero-mul (power 2 (254 * t))) in
     omega arith
 
--- the number whose product with a is 1, for a other than 0
-unfoldable pub inverse : ℕ → ℕ
-inverse a = power 2 (255 - log a)
-
-pub mul-inverse : (a : ℕ) → 0 < a → a < 256 → mul a (inverse a) ≡ 1
-unfolding inverse
-mul-inverse a h k =
-    let l : log a < 255 = log-below a h k in
-    let e : log a + (255 - log a) ≡ 255 = omega arith in
-    ap (λ x. mul x (inverse a)) (sym (power-log a h k)) ∙ sym (power-add 2 (log a) (255 - log a)) ∙ ap (power 2) e ∙ power-turn
-
-pub inverse-below : (a : ℕ) → inverse a < 256
-unfolding inverse
-inverse-below a = power-below 2 (255 - log a)
-
-pub mul-cancel : (a b c : ℕ) → a < 256 → b < 256 → 0 < c → c < 256 → mul a c ≡ mul b c → a ≡ b
-mul-cancel a b c ha hb h k e = sym (back-to a ha) ∙ ap (λ x. mul x (inverse c)) e ∙ back-to b hb
-  where
-    back-to : (x : ℕ) → x < 256 → mul (mul x c) (inverse c) ≡ x
-    back-to x hx = mul-assoc x c (inverse c) ∙ ap (mul x) (mul-inverse c h k) ∙ mul-one x hx
-
--- what the tables' users compute: a product, a power and a quotient by logarithms
+-- a power by the logarithm: what `power` computes
 pub power-by-log : (l t : ℕ) → power 2 (l * (t % 255) % 255) ≡ power (power 2 l) t
 power-by-log l t =
     power-wrap (l * (t % 255))
@@ -148,8 +130,3 @@ power-by-log l t =
     ∙ power-mul 2 t l
     ∙ ap (power 2) (N.mul-comm t l)
     ∙ sym (power-mul 2 l t)
-
-pub quotient-by-logs : (l k : ℕ) → k ≤ 255 → mul (power 2 (l + 255 - k)) (power 2 k) ≡ power 2 l
-quotient-by-logs l k h =
-    let e : l + 255 - k + k ≡ l + 255 = omega arith in
-    sym (power-add 2 (l + 255 - k) k) ∙ ap (power 2) e ∙ power-add 2 l 255 ∙ ap (mul (power 2 l)) power-turn ∙ mul-one (power 2 l) (power-below 2 l)

@@ -3,7 +3,7 @@
 --   numbers  == the field
 --   number n == the element that n stands for: its low eight bits
 --   value x  == the number below 256 that an element is
--- In order: the carrier; the field; `number` and `value` undo one another; they keep sums, products, powers, 0 and 1; γ = 2.
+-- In order: the carrier; the field; `number` and `value` undo one another; they keep 0, 1, sums, products, powers and quotients; γ = 2.
 use mathlib.Core.Path.{_≡_, refl, sym, ap, _∙_}
 use mathlib.Core.HLevel.{isProp→PathP}
 use Prim.Native.Nat.{ℕ, zero, suc, _%_, _<_}
@@ -13,10 +13,11 @@ use native.Mathlib.Omega.{arith}
 use Rattle.theory.specs.Field.{Field}
 use Rattle.theory.specs.Power as theory
 use Rattle.field.specs.Number.{add, mul, power}
+use Rattle.field.specs.Promise.{Divided}
 use Rattle.field.proofs.Xor.{add-assoc, add-comm, add-zero, add-self, add-below, add-mod}
 use Rattle.field.proofs.Product.{mul-below, mul-assoc, mul-comm, mul-one, mul-add, mul-low, low-mul}
 use Rattle.field.proofs.Powers.{power-zero, power-suc}
-use Rattle.field.proofs.Logarithms.{inverse, inverse-below, mul-inverse}
+use Rattle.field.proofs.Inverses.{inverse, inverse-below, mul-inverse}
 
 record Byte : Type 0 where
   at : ℕ
@@ -125,11 +126,22 @@ number-power a zero = ap number (power-zero a) ∙ number-one
 number-power a (suc t) =
     ap number (power-suc a t) ∙ number-mul (power a t) a ∙ ap (λ x. numbers .mul x (number a)) (number-power a t)
 
+pub number-not-zero : (a : ℕ) → 0 < a → a < 256 → number a ≡ numbers .zero → ⊥
+number-not-zero a h k e =
+    let z : a ≡ 0 = number-injective a 0 k (omega arith) (e ∙ sym number-zero) in
+    omega arith
+
+-- what `divide` answers, in the field's words
+pub number-quotient : (a b q : ℕ) → b < 256 → Divided a b q → number q ≡ numbers .mul (number a) (numbers .inverse (number b))
+number-quotient a b q h d =
+    sym (numbers .mul-one (number q))
+    ∙ ap (numbers .mul (number q)) (sym (numbers .mul-inverse (number b) (number-not-zero b (d .divisor) h)))
+    ∙ sym (numbers .mul-assoc (number q) (number b) (numbers .inverse (number b)))
+    ∙ ap (λ x. numbers .mul x (numbers .inverse (number b))) (sym (number-mul q b) ∙ ap number (d .value))
+
 -- γ = 2 is neither 0 nor 1
 pub two-not-zero : number 2 ≡ numbers .zero → ⊥
-two-not-zero e =
-    let z : _≡_ {A = ℕ} 2 0 = number-injective 2 0 (omega arith) (omega arith) (e ∙ sym number-zero) in
-    omega arith
+two-not-zero = number-not-zero 2 (omega arith) (omega arith)
 
 pub two-not-one : number 2 ≡ numbers .one → ⊥
 two-not-one e =

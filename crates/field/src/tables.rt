@@ -1,5 +1,5 @@
 // The two constant tables, and the functions that read them. Every read of a table copies it to the stack, so
-// nothing here is for a loop: `times` is.
+// that none of this is for a loop.
 ghost use mathlib.Core.Path.{_≡_};
 ghost use Prim.Native.Nat.{_<_};
 ghost use Rattle.field.specs.Number.{power};
@@ -780,6 +780,7 @@ const LOGARITHMS: [u8; 256] = [
     175,
 ];
 
+// 2 to the power t.
 pub fn power_of_two(t: usize) -> u8
     requires { ⌜ t < 512 ⌝ }
     ensures { λ r. ⌜ r ≡ power 2 t ⌝ }
@@ -787,6 +788,7 @@ pub fn power_of_two(t: usize) -> u8
     POWERS[t]
 }
 
+// The exponent below 255 of the power of 2 that a is. It is the only one: `powers-once`.
 pub fn logarithm(a: u8) -> u8
     requires { ⌜ 0 < a ⌝ }
     ensures { λ r. ⌜ (r < 255) × (power 2 r ≡ a) ⌝ }

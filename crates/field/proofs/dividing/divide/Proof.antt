@@ -2,7 +2,7 @@
 -- 255 so that it is not below 0, is the quotient.
 -- Assumes nothing.
 use Rattle.field.proofs.Product.{zero-mul}
-use Rattle.field.proofs.Logarithms.{quotient-by-logs}
+use Rattle.field.proofs.Inverses.{quotient-by-logs}
 use native.Mathlib.Omega.{arith}
 use borrow.Author.Needs.{needs}
 use Rattle.field.proofs.dividing.divide.Statement.{statement}
@@ -36,7 +36,11 @@ power-of-two-requires : tie.Need-power-of-two-requires
 power-of-two-requires c κs = search needs
 
 returns-3 : tie.Need-returns-3
-returns-3 c = record { divisor = search needs; small = search needs; value = cc (quotient-by-logs (c .before .before .before .wide .result) (c .before .wide2 .result) (search needs)) }
+returns-3 c = record {
+  divisor = search needs;
+  small = search needs;
+  value = cc (quotient-by-logs (c .before .before .before .wide .result) (c .before .wide2 .result) (search needs));
+}
 
 pub divide-spec : {M : Type 1} → statement M
 divide-spec =

@@ -22,7 +22,10 @@ wide-requires : tie.Need-wide-requires
 wide-requires c κs = search needs
 
 mul-power-of-two : tie.Need-mul-power-of-two
-mul-power-of-two c = record { fits = omega (arith, mul-le-mul {n₁ = c .wide .result} {m₁ = c .before .before .before .before .args .t % 255} {n₂ = 255} {m₂ = 254} (omega arith) (omega arith)) }
+mul-power-of-two c =
+    let l = c .wide .result in
+    let t = c .before .before .before .before .args .t % 255 in
+    record { fits = omega (arith, mul-le-mul {n₁ = l} {m₁ = t} {n₂ = 255} {m₂ = 254} (omega arith) (omega arith)) }
 
 power-of-two-requires : tie.Need-power-of-two-requires
 power-of-two-requires c κs = search needs
