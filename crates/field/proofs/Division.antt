@@ -74,7 +74,16 @@ pub record Division (j n : ℕ) : Type 0 where
 product-top : (j a c q : ℕ) → c < 2 → q < 2 ^ j → product (suc j) a (add (c * 2 ^ j) q) ≡ add (product j a q) (c * (a * 2 ^ j))
 unfolding product
 product-top j a c q hc hq =
-    simp (product-right j a (c * 2 ^ j) q, linear-coefficient j (a * 2 ^ j) (c * 2 ^ j) q, product-no-lower j j a c (omega arith), own-term c j hc, no-upper q j hq, N.zero-mul, zero-add, add-zero)
+    simp (
+      product-right j a (c * 2 ^ j) q,
+      linear-coefficient j (a * 2 ^ j) (c * 2 ^ j) q,
+      product-no-lower j j a c (omega arith),
+      own-term c j hc,
+      no-upper q j hq,
+      N.zero-mul,
+      zero-add,
+      add-zero,
+    )
 
 coefficient-below : (n i : ℕ) → coefficient n i < 2
 unfolding coefficient

@@ -28,7 +28,9 @@ product-right (suc k) a = linear-add (product k a) (λ b. coefficient b k * (a *
 
 linear-without : (j : ℕ) → Linear (without j)
 unfolding without
-linear-without j = linear-add (λ n. n) (λ n. coefficient n (8 + j) * (modulus * 2 ^ j)) (λ x y. refl) (linear-coefficient (8 + j) (modulus * 2 ^ j))
+linear-without j =
+    linear-add (λ n. n) (λ n. coefficient n (8 + j) * (modulus * 2 ^ j)) (λ x y. refl)
+    (linear-coefficient (8 + j) (modulus * 2 ^ j))
 
 linear-remainder : (j : ℕ) → Linear (remainder j)
 unfolding remainder

@@ -1,6 +1,6 @@
 -- Laws of the product. Those of a ring hold for every number, since the product reads the low eight bits alone; only what gives a
 -- number back, as `mul-one`, wants it below 256. In order: doubling; the product keeps sums in each factor; it reads eight bits;
--- commutative, associative; unit and zero.
+-- commutative, associative; unit; the product by the eight bits of one factor, as `times` has it.
 -- Not here: powers and inverses (`Powers`, `Logarithms`).
 use mathlib.Core.Path.{_≡_, refl, sym, ap, _∙_}
 use Prim.Native.Nat.{ℕ, zero, suc, _*_, _/_, _%_, _^_, _<_}
@@ -69,7 +69,8 @@ byBits-below : (k x b : ℕ) → x < 256 → byBits k x b < 256
 byBits-below zero x b h = rw byBits-zero (omega arith)
 byBits-below (suc k) x b h =
     rw byBits-suc
-    (add-below 8 (b % 2 * x) (byBits k (double x) (b / 2)) (bit-below (b % 2) x (omega arith) h) (byBits-below k (double x) (b / 2) (double-below x h)))
+    (add-below 8 (b % 2 * x) (byBits k (double x) (b / 2)) (bit-below (b % 2) x (omega arith) h)
+    (byBits-below k (double x) (b / 2) (double-below x h)))
 
 pub mul-below : (a b : ℕ) → mul a b < 256
 unfolding mul

@@ -1,4 +1,5 @@
--- Laws of the sum, which is exclusive or. In order: clauses by the lowest bit; group laws; bounds; multiples by a bit and by powers of 2.
+-- Laws of the sum, which is exclusive or. In order: by the lowest bit; the laws of a group in which each number is its own inverse; bounds,
+-- high bits and low bits.
 use mathlib.Core.Path.{_≡_, refl, sym, ap, _∙_}
 use Prim.Native.Nat.{ℕ, zero, suc, _+_, _*_, _/_, _%_, _^_, _<_}
 use native.Mathlib.Omega.{arith}

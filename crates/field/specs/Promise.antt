@@ -34,6 +34,7 @@ pub record Barred (b n : ℕ) : Type 0 where
   pub divisor : b ≡ 0
   pub number : n ≡ 9
 
+-- what each case of the answer means
 abbrev pub QuotientIs : ℕ → ℕ → Quotient → Type 0
 QuotientIs a b (Number q) = Divided a b q
 QuotientIs a b (Refused n) = Barred b n

@@ -53,7 +53,9 @@ where-odd-requires-8 c κs = search needs
 
 returns : tie.Need-returns
 unfolding add
-returns c = record { value = cc (mul-eight-bits (c .before .before .before .before .before .before .before .before .before .before .before .before .before .before .before .args .a) (c .before .before .before .before .before .before .before .before .before .before .before .before .before .before .before .args .c) (search needs)) }
+returns c =
+    let given = c .before .before .before .before .before .before .before .before .before .before .before .before .before .before .before .args in
+    record { value = cc (mul-eight-bits (given .a) (given .c) (search needs)) }
 
 pub times-spec : {M : Type 1} → statement M
 times-spec =
