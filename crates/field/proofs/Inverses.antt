@@ -1,35 +1,34 @@
--- Inverses, from the logarithms. In order: the inverse; cancelling; a quotient by the logarithms: what `divide` computes.
-use mathlib.Core.Path.{_≡_, sym, ap, _∙_}
-use Prim.Native.Nat.{ℕ, _+_, _-_, _<_, _≤_}
+-- Inverses, by one test that is computed: the power of 2 whose logarithm is 255 less that of a.
+use mathlib.Core.Path.{_≡_}
+use mathlib.Core.Bool.{Bool}
+use mathlib.Core.List.{List}
+use Prim.Native.Nat.{ℕ, zero, suc, _-_, _<_}
 use native.Mathlib.Omega.{arith}
-use Rattle.field.specs.Number.{mul, power}
-use Rattle.field.proofs.Product.{mul-one, mul-assoc}
-use Rattle.field.proofs.Powers.{power-below, power-add}
-use Rattle.field.proofs.Logarithms.{log, log-below, power-log, power-turn}
+use lib.Dec.{T, eqb, eqb→eq}
+use lib.ListN.{getD}
+use Rattle.field.specs.Number.{modulus, add, double, byBits, mul}
+use Rattle.field.proofs.Tests.{all, all-at}
+use Rattle.field.proofs.Lists.{powers, place, places, logarithms, powers-below}
 
--- the number whose product with a is 1, for a other than 0
+inverseBy : List ℕ → List ℕ → ℕ → ℕ
+inverseBy ps ls a = getD ps (255 - getD ls a 0) 0
+
 unfoldable pub inverse : ℕ → ℕ
-inverse a = power 2 (255 - log a)
+unfolding inverseBy
+inverse a = inverseBy (powers 256 1) logarithms a
+
+inverts : List ℕ → List ℕ → ℕ → Bool
+inverts ps ls a = eqb (mul (suc a) (inverseBy ps ls (suc a))) 1
+
+inverts-test : T (all (inverts (powers 256 1) logarithms) 255)
+unfolding inverts inverseBy powers logarithms place places mul byBits double add modulus
+inverts-test = tt
 
 pub mul-inverse : (a : ℕ) → 0 < a → a < 256 → mul a (inverse a) ≡ 1
-unfolding inverse
-mul-inverse a h k =
-    let l : log a < 255 = log-below a h k in
-    let e : log a + (255 - log a) ≡ 255 = omega arith in
-    ap (λ x. mul x (inverse a)) (sym (power-log a h k)) ∙ sym (power-add 2 (log a) (255 - log a)) ∙ ap (power 2) e ∙ power-turn
+unfolding inverse inverts
+mul-inverse zero h k = absurd (omega arith)
+mul-inverse (suc a) h k = eqb→eq (mul (suc a) (inverse (suc a))) 1 (all-at (inverts (powers 256 1) logarithms) 255 inverts-test a (omega arith))
 
 pub inverse-below : (a : ℕ) → inverse a < 256
-unfolding inverse
-inverse-below a = power-below 2 (255 - log a)
-
-pub mul-cancel : (a b c : ℕ) → a < 256 → b < 256 → 0 < c → c < 256 → mul a c ≡ mul b c → a ≡ b
-mul-cancel a b c ha hb h k e = sym (back-to a ha) ∙ ap (λ x. mul x (inverse c)) e ∙ back-to b hb
-  where
-    back-to : (x : ℕ) → x < 256 → mul (mul x c) (inverse c) ≡ x
-    back-to x hx = mul-assoc x c (inverse c) ∙ ap (mul x) (mul-inverse c h k) ∙ mul-one x hx
-
-pub quotient-by-logs : (l k : ℕ) → k ≤ 255 → mul (power 2 (l + 255 - k)) (power 2 k) ≡ power 2 l
-quotient-by-logs l k h =
-    let e : l + 255 - k + k ≡ l + 255 = omega arith in
-    sym (power-add 2 (l + 255 - k) k) ∙ ap (power 2) e ∙ power-add 2 l 255
-    ∙ ap (mul (power 2 l)) power-turn ∙ mul-one (power 2 l) (power-below 2 l)
+unfolding inverse inverseBy
+inverse-below a = powers-below 256 1 (255 - getD logarithms a 0) (omega arith)

@@ -5,10 +5,11 @@
 --   Product    == products: a commutative ring; the product by eight bits
 --   Printed    == the product is the printed one
 --   Division   == the printed one is a remainder of a division
---   Powers     == powers
---   Logarithms == the lists that the tables are; the powers of 2 are all the non-zero numbers, each once
---   Inverses   == inverses, cancelling, quotients
+--   Lists      == the powers of 2 and their logarithms as computed lists, which the tables are
+--   Inverses   == inverses, by one computed test
 --   Numbers    == the instance of theory's field
+--   Powers     == powers: theory's laws at that field
+--   Logarithms == the powers of 2 are all the non-zero numbers, each once; exponents wrap; quotients
 --   Settled    == each promise settles its result; wrong answers ruled out
 pub mod Xor
 pub mod Tests
@@ -16,8 +17,9 @@ pub mod Linear
 pub mod Product
 pub mod Printed
 pub mod Division
-pub mod Powers
-pub mod Logarithms
+pub mod Lists
 pub mod Inverses
 pub mod Numbers
+pub mod Powers
+pub mod Logarithms
 pub mod Settled

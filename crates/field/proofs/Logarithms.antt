@@ -1,12 +1,10 @@
--- The powers of 2 and their logarithms. They are computed lists: that a table of the code is such a list is one computation over the
--- whole table, at the function that reads it, and no entry is copied here. The rule of a list then holds at each entry.
--- In order: the powers; the logarithms, by one computed test over the list for each part of their rule; the 255 powers of 2 are all
--- the non-zero numbers, each once; exponents wrap at 255.
--- Not here: inverses and quotients (`Inverses`).
+-- The logarithms to base 2, as the lists of `Lists` have them: the rule of each list holds at each entry. In order: the powers; the logarithms, by one
+-- computed test over the list for each part of their rule; the 255 powers of 2 are all the non-zero numbers, each once; exponents wrap at
+-- 255; powers and quotients by logarithms.
 use mathlib.Core.Path.{_≡_, sym, ap, _∙_}
-use mathlib.Core.Bool.{Bool, true, false}
-use mathlib.Core.List.{List, [], _∷_}
-use Prim.Native.Nat.{ℕ, zero, suc, _+_, _*_, _/_, _%_, _<_}
+use mathlib.Core.Bool.{Bool}
+use mathlib.Core.List.{List}
+use Prim.Native.Nat.{ℕ, zero, suc, _+_, _-_, _*_, _/_, _%_, _<_, _≤_}
 use native.Mathlib.Nat as N
 use native.Mathlib.Omega.{arith}
 use lib.Dec.{T, eqb, ltb, eqb→eq, ltb→lt}
@@ -14,40 +12,19 @@ use lib.ListN.{getD}
 use Rattle.field.specs.Number.{modulus, add, double, mul, power}
 use Rattle.field.proofs.Tests.{all, all-at}
 use Rattle.field.proofs.Product.{double-below, mul-one, one-mul, mul-two, zero-mul, mul-comm, mul-assoc}
-use Rattle.field.proofs.Powers.{power-zero, power-suc, power-below, power-add, power-mul, one-power}
-
--- n numbers from x on, each the double of the one before
-unfoldable pub powers : ℕ → ℕ → List ℕ
-powers zero x = []
-powers (suc n) x = x ∷ powers n (double x)
+use Rattle.field.proofs.Lists.{powers, place, places, logarithms, log}
+use Rattle.field.proofs.Powers.{power-below, power-add, power-power, one-power}
 
 powers-at : (n x i : ℕ) → x < 256 → i < n → getD (powers n x) i 0 ≡ mul x (power 2 i)
-unfolding powers
+unfolding powers power
 powers-at zero x i h k = absurd (omega arith)
-powers-at (suc n) x zero h k = rw power-zero (sym (mul-one x h))
+powers-at (suc n) x zero h k = sym (mul-one x h)
 powers-at (suc n) x (suc i) h k =
     powers-at n (double x) i (double-below x h) (omega arith)
-    ∙ rw (← mul-two x h, mul-assoc, power-suc 2 i) (ap (mul x) (mul-comm 2 (power 2 i)))
+    ∙ rw (← mul-two x h, mul-assoc) (ap (mul x) (mul-comm 2 (power 2 i)))
 
 pub power-at : (n i : ℕ) → i < n → getD (powers n 1) i 0 ≡ power 2 i
 power-at n i h = powers-at n 1 i (omega arith) h ∙ one-mul (power 2 i) (power-below 2 i)
-
--- the place of a in a list
-unfoldable pub place : ℕ → List ℕ → ℕ
-place a [] = 0
-place a (x ∷ xs) = elim (eqb a x) [ true ↦ 0 | false ↦ suc (place a xs) ]
-
--- the places of n numbers from a on
-unfoldable pub places : ℕ → ℕ → List ℕ → List ℕ
-places zero a xs = []
-places (suc n) a xs = place a xs ∷ places n (suc a) xs
-
--- the logarithms of 1 to 255, with a 0 in front that nothing here reads
-unfoldable pub logarithms : List ℕ
-logarithms = 0 ∷ places 255 1 (powers 255 1)
-
-unfoldable pub log : ℕ → ℕ
-log a = getD logarithms a 0
 
 -- the tests: the logarithm of each number from 1 to 255 is below 255, and its power of 2 is that number; and the other way round
 small : List ℕ → ℕ → Bool
@@ -102,7 +79,7 @@ unfolding powers double add modulus
 power-turn = sym (power-at 256 255 (omega arith))
 
 turns : (q : ℕ) → power 2 (255 * q) ≡ 1
-turns q = sym (power-mul 2 255 q) ∙ ap (λ x. power x q) power-turn ∙ one-power q
+turns q = sym (power-power 2 255 q) ∙ ap (λ x. power x q) power-turn ∙ one-power q
 
 -- exponents of 2 wrap at 255
 pub power-wrap : (t : ℕ) → power 2 (t % 255) ≡ power 2 t
@@ -125,8 +102,18 @@ pub power-by-log : (l t : ℕ) → power 2 (l * (t % 255) % 255) ≡ power (powe
 power-by-log l t =
     power-wrap (l * (t % 255))
     ∙ ap (power 2) (N.mul-comm l (t % 255))
-    ∙ sym (power-mul 2 (t % 255) l)
+    ∙ sym (power-power 2 (t % 255) l)
     ∙ ap (λ x. power x l) (power-wrap t)
-    ∙ power-mul 2 t l
+    ∙ power-power 2 t l
     ∙ ap (power 2) (N.mul-comm t l)
-    ∙ sym (power-mul 2 l t)
+    ∙ sym (power-power 2 l t)
+
+-- a quotient by the logarithms: what `divide` computes
+pub quotient-by-logs : (l k : ℕ) → k ≤ 255 → mul (power 2 (l + 255 - k)) (power 2 k) ≡ power 2 l
+quotient-by-logs l k h =
+    let e : l + 255 - k + k ≡ l + 255 = omega arith in
+    sym (power-add 2 (l + 255 - k) k)
+    ∙ ap (power 2) e
+    ∙ power-add 2 l 255
+    ∙ ap (mul (power 2 l)) power-turn
+    ∙ mul-one (power 2 l) (power-below 2 l)

@@ -3,7 +3,8 @@
 --   numbers  == the field
 --   number n == the element that n stands for: its low eight bits
 --   value x  == the number below 256 that an element is
--- In order: the carrier; the field; `number` and `value` undo one another; they keep 0, 1, sums, products, powers and quotients; γ = 2.
+-- In order: the carrier; the field; `number` and `value` undo one another; they keep 0, 1, sums, products, powers and quotients;
+-- cancelling; γ = 2.
 use mathlib.Core.Path.{_≡_, refl, sym, ap, _∙_}
 use mathlib.Core.HLevel.{isProp→PathP}
 use Prim.Native.Nat.{ℕ, zero, suc, _%_, _<_}
@@ -12,11 +13,11 @@ use native.Mathlib.Nat.{mod-eq-of-lt}
 use native.Mathlib.Omega.{arith}
 use Rattle.theory.specs.Field.{Field}
 use Rattle.theory.specs.Power as theory
+use Rattle.theory.proofs.Ring.{mul-cancel-right}
 use Rattle.field.specs.Number.{add, mul, power}
 use Rattle.field.specs.Promise.{Divided}
 use Rattle.field.proofs.Xor.{add-assoc, add-comm, add-zero, add-self, add-below, add-mod}
 use Rattle.field.proofs.Product.{mul-below, mul-assoc, mul-comm, mul-one, mul-add, mul-low, low-mul}
-use Rattle.field.proofs.Powers.{power-zero, power-suc}
 use Rattle.field.proofs.Inverses.{inverse, inverse-below, mul-inverse}
 
 record Byte : Type 0 where
@@ -121,15 +122,19 @@ unfolding numbers value productOf
 value-mul x y = refl
 
 pub number-power : (a t : ℕ) → number (power a t) ≡ theory.power numbers (number a) t
-unfolding theory.power
-number-power a zero = ap number (power-zero a) ∙ number-one
-number-power a (suc t) =
-    ap number (power-suc a t) ∙ number-mul (power a t) a ∙ ap (λ x. numbers .mul x (number a)) (number-power a t)
+unfolding power theory.power
+number-power a zero = number-one
+number-power a (suc t) = number-mul (power a t) a ∙ ap (λ x. numbers .mul x (number a)) (number-power a t)
 
 pub number-not-zero : (a : ℕ) → 0 < a → a < 256 → number a ≡ numbers .zero → ⊥
 number-not-zero a h k e =
     let z : a ≡ 0 = number-injective a 0 k (omega arith) (e ∙ sym number-zero) in
     omega arith
+
+pub mul-cancel : (a b c : ℕ) → a < 256 → b < 256 → 0 < c → c < 256 → mul a c ≡ mul b c → a ≡ b
+mul-cancel a b c ha hb h k e =
+    number-injective a b ha hb
+    (mul-cancel-right numbers (number c) (number-not-zero c h k) (sym (number-mul a c) ∙ ap number e ∙ number-mul b c))
 
 -- what `divide` answers, in the field's words
 pub number-quotient : (a b q : ℕ) → b < 256 → Divided a b q → number q ≡ numbers .mul (number a) (numbers .inverse (number b))

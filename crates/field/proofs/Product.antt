@@ -131,9 +131,6 @@ pub mul-assoc : (a b c : ℕ) → mul (mul a b) c ≡ mul a (mul b c)
 mul-assoc a b c =
     simp (mul-low, low-mul) at (assoc-byte (a % 256) (b % 256) (c % 256) (omega arith) (omega arith) (omega arith))
 
-pub mul-left-comm : (a b c : ℕ) → mul a (mul b c) ≡ mul b (mul a c)
-mul-left-comm a b c = sym (mul-assoc a b c) ∙ ap (λ x. mul x c) (mul-comm a b) ∙ mul-assoc b a c
-
 pub mul-one : (a : ℕ) → a < 256 → mul a 1 ≡ a
 unfolding mul byBits double add modulus
 mul-one = agree₁ (λ a. mul a 1) (λ a. a) (λ x y. add-mul x y 1) (λ x y. refl) 8 tt

@@ -8,7 +8,7 @@ use Rattle.field.specs.Number.{modulus, add, double, byBits, mul, power}
 use Rattle.field.specs.Promise.{SumIs, DoubleIs, ProductIs, PowerIs, QuotientIs}
 use Rattle.field.specs.declared.answers.Quotient.{Quotient}
 use Rattle.field.specs.declared.answers.Quotient.the-variants.{Number, Refused}
-use Rattle.field.proofs.Inverses.{mul-cancel}
+use Rattle.field.proofs.Numbers.{mul-cancel}
 
 pub add-settled : (a b r s : ℕ) → SumIs a b r → SumIs a b s → r ≡ s
 add-settled a b r s p q = p .value ∙ sym (q .value)

@@ -2,8 +2,8 @@
 -- of sums and of multiples, one point taken out of all; moments over a set.
 use mathlib.Core.Path.{_≡_, refl, ap, _∙_}
 use mathlib.Core.Bool.{Bool, true, false, not}
-use Prim.Native.Nat.{ℕ, zero, suc, _+_, _<_}
-use native.Mathlib.Nat.{add-zero, add-suc}
+use Prim.Native.Nat.{ℕ, zero, suc, _+_, _*_, _<_}
+use native.Mathlib.Nat.{add-zero, add-suc, mul-zero, mul-suc}
 use borrow.Author.Tests.{not-true}
 use Rattle.theory.specs.Field.{Field}
 use Rattle.theory.specs.Sum.{sum}
@@ -32,6 +32,10 @@ module _ (F : Field) where
   pub power-mul : (x y : K) (t : ℕ) → power F (x ⊗ y) t ≡ power F x t ⊗ power F y t
   power-mul x y zero = simp (power-zero, ring)
   power-mul x y (suc t) = simp (power-suc, power-mul x y t, ring)
+
+  pub power-power : (x : K) (t k : ℕ) → power F (power F x t) k ≡ power F x (t * k)
+  power-power x t zero = rw (mul-zero t, power-zero x, power-zero (power F x t))
+  power-power x t (suc k) = rw (mul-suc t k, power-add x (t * k) t, power-suc (power F x t) k, power-power x t k)
 
   pub power-of-one : (t : ℕ) → power F 𝟙 t ≡ 𝟙
   power-of-one zero = power-zero 𝟙

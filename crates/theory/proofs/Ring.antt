@@ -70,6 +70,10 @@ module _ (F : Field) where
   pub mul-inverse-right : (x y : K) → (x ≡ 𝟘 → ⊥) → x ⊗ (inverse x ⊗ y) ≡ y
   mul-inverse-right x y h = mul-left-comm x (inverse x) y ∙ mul-inverse-left x y h
 
+  pub mul-cancel-right : {x y : K} (z : K) → (z ≡ 𝟘 → ⊥) → x ⊗ z ≡ y ⊗ z → x ≡ y
+  mul-cancel-right {x} {y} z h e =
+      sym (mul-inverse-left z x h) ∙ ap (λ w. inverse z ⊗ w) (mul-comm z x ∙ e ∙ mul-comm y z) ∙ mul-inverse-left z y h
+
   pub factor-zero : {x y : K} → (x ≡ 𝟘 → ⊥) → x ⊗ y ≡ 𝟘 → y ≡ 𝟘
   factor-zero {x} {y} h e = sym (mul-inverse-left x y h) ∙ ap (λ w. inverse x ⊗ w) e ∙ mul-zero (inverse x)
 

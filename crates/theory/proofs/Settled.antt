@@ -4,10 +4,9 @@
 -- of a pair, whose rows have the same score.
 use mathlib.Core.Path.{_≡_, refl, sym, ap, ap₂, _∙_}
 use mathlib.Core.Bool.{Bool, true, false}
-use Prim.Native.Nat.{ℕ, zero, suc, _<_, _≤_, Ordering, Ordering·eq}
+use Prim.Native.Nat.{ℕ, zero, suc, _<_, Ordering, Ordering·eq}
 use native.Mathlib.Omega.{arith}
 use Rattle.theory.specs.Field.{Field}
-use Rattle.theory.specs.Set.{count}
 use Rattle.theory.specs.Code.{Code, Stripe, Lawful, nodes, rows}
 use Rattle.theory.specs.Digit.{group}
 use Rattle.theory.specs.Weight.{weight, side, mateNode, mateRow}

@@ -2,7 +2,7 @@
 -- 255 so that it is not below 0, is the quotient.
 -- Assumes nothing.
 use Rattle.field.proofs.Product.{zero-mul}
-use Rattle.field.proofs.Inverses.{quotient-by-logs}
+use Rattle.field.proofs.Logarithms.{quotient-by-logs}
 use native.Mathlib.Omega.{arith}
 use borrow.Author.Needs.{needs}
 use Rattle.field.proofs.dividing.divide.Statement.{statement}

@@ -2,7 +2,8 @@
 -- Assumes nothing.
 use native.Mathlib.Omega.{arith}
 use Rattle.field.specs.Number.{modulus, add, double}
-use Rattle.field.proofs.Logarithms.{powers, place, places, logarithms, log, log-below, power-log}
+use Rattle.field.proofs.Lists.{powers, place, places, logarithms, log}
+use Rattle.field.proofs.Logarithms.{log-below, power-log}
 use borrow.Author.Needs.{needs}
 use Rattle.field.proofs.tables.logarithm.Statement.{statement}
 use Rattle.field.proofs.tables.logarithm.Tie as tie

@@ -1,7 +1,8 @@
 -- `field::power_of_two` meets its contract: the table is the computed list of the powers of 2, whose rule holds at each entry.
 -- Assumes nothing.
 use Rattle.field.specs.Number.{modulus, add, double}
-use Rattle.field.proofs.Logarithms.{powers, power-at}
+use Rattle.field.proofs.Lists.{powers}
+use Rattle.field.proofs.Logarithms.{power-at}
 use borrow.Author.Needs.{needs}
 use Rattle.field.proofs.tables.power_of_two.Statement.{statement}
 use Rattle.field.proofs.tables.power_of_two.Tie as tie
