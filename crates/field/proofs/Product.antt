@@ -2,7 +2,7 @@
 -- number back, as `mul-one`, wants it below 256. In order: doubling; the product keeps sums in each factor; it reads eight bits;
 -- commutative, associative; unit; the product by the eight bits of one factor, as `times` has it.
 -- Not here: powers and inverses (`Powers`, `Logarithms`).
-use mathlib.Core.Path.{_≡_, refl, sym, ap, _∙_}
+use mathlib.Core.Path.{_≡_, refl, ap, _∙_}
 use Prim.Native.Nat.{ℕ, zero, suc, _*_, _/_, _%_, _^_, _<_}
 use native.Mathlib.Nat as N
 use native.Mathlib.Omega.{arith}

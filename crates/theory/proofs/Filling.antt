@@ -22,8 +22,7 @@ use Rattle.theory.proofs.Settled.{settled-zero}
 use Rattle.theory.proofs.Levels.{reached}
 
 module _ (c : Code) where
-  open Code c using (field as F, s, point)
-  open Field F using (K)
+  open Code c using (field as F, point)
 
   pub whole-fewer : (k r : ℕ) (C : Stripe c) → k ≤ r → Whole c r C → Whole c k C
   whole-fewer k r C le w a al t l = w a al t (omega arith)
@@ -38,10 +37,9 @@ module _ (c : Code) where
   free→meets k C a w t l = moment-ext F (nodes c) point _ _ t (λ i il. sym (weight-bound c noGroup C a i refl)) ∙ w t l
 
 module _ (c : Code) (h : Lawful c) where
-  open Code c using (field as F, s, m, point)
-  open Field F using (K, zero as 𝟘, add as _⊕_)
+  open Code c using (field as F, s, m)
+  open Field F using (K)
 
-  infixl 60 _⊕_
   pub whole-same : (r : ℕ) (C D : Stripe c) → Same c C D → Whole c r C → Whole c r D
   whole-same r C D same w a al t l =
       sym (equation-ext c C D a t (λ i il. same i a il al)

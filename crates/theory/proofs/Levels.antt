@@ -63,7 +63,7 @@ module _ (c : Code) (free L : ℕ → Bool) (E : Stripe c) (x : ℕ → ℕ → 
 module _ (c : Code) (h : Lawful c) (k : ℕ) (free L : ℕ → Bool) (B : Stripe c) (n : ℕ) (E : Stripe c) (x : ℕ → ℕ → c .field .K) (E′ : Stripe c)
     (level : Level c k free L B n E) (step : Stepped c k free L n E x E′) where
   open Code c using (field as F, s, m, point)
-  open Field F using (K, zero as 𝟘, add as _⊕_, mul as _⊗_, inverse)
+  open Field F using (add as _⊕_, mul as _⊗_, inverse)
 
   infixl 60 _⊕_
   infixl 70 _⊗_
@@ -176,10 +176,8 @@ module _ (c : Code) (h : Lawful c) (k : ℕ) (free L : ℕ → Bool) (B : Stripe
 
 module _ (c : Code) (h : Lawful c) (k : ℕ) (free L : ℕ → Bool) (exact : count (nodes c) L ≡ k) (B : Stripe c) where
   open Code c using (field as F, s, m, point)
-  open Field F using (K, zero as 𝟘, add as _⊕_, mul as _⊗_)
+  open Field F using (K)
 
-  infixl 60 _⊕_
-  infixl 70 _⊗_
   -- the weights of lost nodes at a row, solved for
   known : Stripe c → ℕ → ℕ → K
   known E a t = momentOver F (nodes c) (λ i. not (L i)) point (weightFree c free E a) t

@@ -13,8 +13,8 @@ use Rattle.theory.proofs.Ring.{ring}
 use Rattle.theory.proofs.Powers.{moment-ext, moment-add, moment-scale}
 
 module _ (c : Code) where
-  open Code c using (field as F, s, point, γ)
-  open Field F using (K, zero as 𝟘, add as _⊕_, mul as _⊗_)
+  open Code c using (field as F, s, point)
+  open Field F using (K, add as _⊕_, mul as _⊗_)
 
   infixl 60 _⊕_
   infixl 70 _⊗_

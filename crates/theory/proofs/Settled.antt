@@ -20,11 +20,9 @@ use Rattle.theory.proofs.Scores.{score-le, score-mate}
 use Rattle.theory.proofs.Weights.{weight-free, weight-bound, weight-own, weight-split, unpaired-zero, symbol-paired, symbol-single}
 
 module _ (c : Code) (h : Lawful c) (free : ℕ → Bool) where
-  open Code c using (field as F, s, m, point, γ)
-  open Field F using (K, zero as 𝟘, one as 𝟙, add as _⊕_, mul as _⊗_, inverse)
+  open Code c using (field as F, s, m, point)
+  open Field F using (zero as 𝟘)
 
-  infixl 60 _⊕_
-  infixl 70 _⊗_
   module _ (k : ℕ) (good : ℕ → Type 0) (closed : Closed c free good) (L : ℕ → Bool) (D : Stripe c) (blank : Blank c k free good L D) where
     -- a good row of a score below n
     abbrev Row : ℕ → ℕ → Type 0

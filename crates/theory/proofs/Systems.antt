@@ -25,8 +25,8 @@ use Rattle.theory.proofs.Mates.{own-side}
 use Rattle.theory.proofs.Shares.{equation-shares, share-own}
 
 module _ (c : Code) where
-  open Code c using (field as F, s, m, point)
-  open Field F using (K, zero as 𝟘, add as _⊕_)
+  open Code c using (field as F, point)
+  open Field F using (K, add as _⊕_)
 
   infixl 60 _⊕_
   -- the weights of lost nodes, on the one side, and of kept ones, on the other
