@@ -10,6 +10,7 @@
 --   Numbers    == the instance of theory's field
 --   Powers     == powers: theory's laws at that field
 --   Logarithms == the powers of 2 are all the non-zero numbers, each once; exponents wrap; quotients
+--   Lawful     == a code that meets what theory assumes
 --   Settled    == each promise settles its result; wrong answers ruled out
 pub mod Xor
 pub mod Tests
@@ -22,4 +23,5 @@ pub mod Inverses
 pub mod Numbers
 pub mod Powers
 pub mod Logarithms
+pub mod Lawful
 pub mod Settled

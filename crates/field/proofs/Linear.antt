@@ -12,7 +12,7 @@ use lib.Bits.{differ, xor-block, xor-shifted}
 use lib.Pow.{pow-pos, split, shr-lt}
 use native.Mathlib.Numerals.{one-add}
 use Rattle.field.specs.Number.{add}
-use Rattle.field.proofs.Xor.{sums, add-self, zero-add, add-zero, add-odd, add-shr, add-mod}
+use Rattle.field.proofs.Xor.{sums, add-self, zero-add, add-zero, add-odd}
 use Rattle.field.proofs.Tests.{all, all-at, all-equal}
 
 abbrev pub Linear : (ℕ → ℕ) → Type 0
@@ -23,12 +23,6 @@ linear-zero f l = ap f (sym (add-self 0)) ∙ l 0 0 ∙ add-self (f 0)
 
 pub linear-add : (f g : ℕ → ℕ) → Linear f → Linear g → Linear (λ a. add (f a) (g a))
 linear-add f g l m a b = rw (l a b, m a b) (simp sums)
-
-pub linear-shr : (k : ℕ) → Linear (λ a. a / 2 ^ k)
-linear-shr k a b = add-shr a b k
-
-pub linear-mod : (k : ℕ) → Linear (λ a. a % 2 ^ k)
-linear-mod k a b = add-mod a b k
 
 pub linear-shift : (k : ℕ) → Linear (λ a. a * 2 ^ k)
 unfolding add

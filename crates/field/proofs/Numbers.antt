@@ -104,14 +104,11 @@ number-one = refl
 
 pub number-add : (a b : ℕ) → number (add a b) ≡ numbers .add (number a) (number b)
 unfolding numbers number byte sumOf
-number-add a b = byte-path (add-mod a b 8)
+number-add a b = byte-path (add-mod 8 a b)
 
 pub number-mul : (a b : ℕ) → number (mul a b) ≡ numbers .mul (number a) (number b)
 unfolding numbers number byte productOf
 number-mul a b = byte-path (mod-eq-of-lt (mul-below a b) ∙ sym (low-mul a (b % 256) ∙ mul-low a b))
-
-pub value-injective : (x y : numbers .K) → value x ≡ value y → x ≡ y
-value-injective x y e = sym (number-value x) ∙ ap number e ∙ number-value y
 
 pub value-add : (x y : numbers .K) → value (numbers .add x y) ≡ add (value x) (value y)
 unfolding numbers value sumOf

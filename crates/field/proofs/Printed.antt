@@ -5,14 +5,14 @@ use Prim.Native.Nat.{ℕ, zero, suc, _+_, _*_, _/_, _%_, _^_, _<_}
 use native.Mathlib.Omega.{arith}
 use Rattle.field.specs.Number.{modulus, add, double, byBits, mul}
 use Rattle.field.specs.Polynomial.{coefficient, product, without, remainder, printed}
-use Rattle.field.proofs.Xor.{sums}
-use Rattle.field.proofs.Linear.{Linear, Bilinear, linear-add, linear-shift, linear-shr, linear-bit, linear-times, agree₂}
+use Rattle.field.proofs.Xor.{sums, add-shr}
+use Rattle.field.proofs.Linear.{Linear, Bilinear, linear-add, linear-shift, linear-bit, linear-times, agree₂}
 use Rattle.field.proofs.Product.{mul-bilinear}
 
 -- the coefficient of xⁱ, times a number
 pub linear-coefficient : (i c : ℕ) → Linear (λ n. coefficient n i * c)
 unfolding coefficient
-linear-coefficient i c a b = ap (λ x. x % 2 * c) (linear-shr i a b) ∙ linear-bit c (a / 2 ^ i) (b / 2 ^ i)
+linear-coefficient i c a b = ap (λ x. x % 2 * c) (add-shr i a b) ∙ linear-bit c (a / 2 ^ i) (b / 2 ^ i)
 
 product-left : (k b : ℕ) → Linear (λ a. product k a b)
 unfolding product coefficient

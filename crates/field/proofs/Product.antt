@@ -1,7 +1,7 @@
 -- Laws of the product. Those of a ring hold for every number, since the product reads the low eight bits alone; only what gives a
 -- number back, as `mul-one`, wants it below 256. In order: doubling; the product keeps sums in each factor; it reads eight bits;
 -- commutative, associative; unit; the product by the eight bits of one factor, as `times` has it.
--- Not here: powers and inverses (`Powers`, `Logarithms`).
+-- Not here: inverses and powers (`Inverses`, `Powers`).
 use mathlib.Core.Path.{_≡_, refl, ap, _∙_}
 use Prim.Native.Nat.{ℕ, zero, suc, _*_, _/_, _%_, _^_, _<_}
 use native.Mathlib.Nat as N
@@ -10,8 +10,8 @@ use native.Mathlib.Numerals.{add-one}
 use lib.Dec.{T}
 use lib.Pow.{mod-mod-pow, field}
 use Rattle.field.specs.Number.{modulus, add, double, byBits, mul}
-use Rattle.field.proofs.Xor.{sums, add-below}
-use Rattle.field.proofs.Linear.{Linear, linear-zero, linear-add, linear-shift, linear-shr, linear-bit, linear-times, linear-mod, Bilinear, Trilinear, agree₁, agree₂, agree₃}
+use Rattle.field.proofs.Xor.{sums, add-below, add-shr, add-mod}
+use Rattle.field.proofs.Linear.{Linear, linear-zero, linear-add, linear-shift, linear-bit, linear-times, Bilinear, Trilinear, agree₁, agree₂, agree₃}
 use Rattle.field.proofs.Tests.{all-equal}
 
 -- doubling with bytes alone: the bits below bit 7 shifted, and 29 where bit 7 is set
@@ -26,7 +26,7 @@ pub linear-double : Linear double
 unfolding double
 linear-double =
     linear-add (λ a. a * 2) (λ a. a / 128 % 2 * modulus) (linear-shift 1)
-    (λ a b. ap (λ x. x % 2 * modulus) (linear-shr 7 a b) ∙ linear-bit modulus (a / 128) (b / 128))
+    (λ a b. ap (λ x. x % 2 * modulus) (add-shr 7 a b) ∙ linear-bit modulus (a / 128) (b / 128))
 
 byBits-suc : (k x b : ℕ) → byBits (suc k) x b ≡ add (b % 2 * x) (byBits k (double x) (b / 2))
 unfolding byBits
@@ -44,11 +44,11 @@ byBits-linear-left (suc k) b x y =
 byBits-linear-right : (k x : ℕ) → Linear (λ b. byBits k x b)
 byBits-linear-right zero x a b = simp (byBits-zero, sums)
 byBits-linear-right (suc k) x a b =
-    simp (byBits-suc, linear-bit x a b, linear-shr 1 a b, byBits-linear-right k (double x) (a / 2) (b / 2), sums)
+    simp (byBits-suc, linear-bit x a b, add-shr 1 a b, byBits-linear-right k (double x) (a / 2) (b / 2), sums)
 
 pub add-mul : (a b c : ℕ) → mul (add a b) c ≡ add (mul a c) (mul b c)
 unfolding mul
-add-mul a b c = rw (linear-mod 8 a b) (byBits-linear-left 8 c (a % 256) (b % 256))
+add-mul a b c = rw (add-mod 8 a b) (byBits-linear-left 8 c (a % 256) (b % 256))
 
 pub mul-add : (a b c : ℕ) → mul a (add b c) ≡ add (mul a b) (mul a c)
 unfolding mul

@@ -66,9 +66,9 @@ pub power-settled : (a t r s : ℕ) → PowerIs a t r → PowerIs a t s → r �
 power-settled a t r s p q = p .value ∙ sym (q .value)
 
 -- power 0 of 0 is 1
-pub power-of-zero : PowerIs 0 0 0 → ⊥
+pub power-0-of-0 : PowerIs 0 0 0 → ⊥
 unfolding power
-power-of-zero p = let e : _≡_ {A = ℕ} 0 1 = p .value in omega arith
+power-0-of-0 p = let e : _≡_ {A = ℕ} 0 1 = p .value in omega arith
 
 -- 2 to the power 8 is 29
 pub power-shifts : PowerIs 2 8 0 → ⊥

@@ -1,5 +1,5 @@
--- Laws of the sum, which is exclusive or. In order: by the lowest bit; the laws of a group in which each number is its own inverse; bounds,
--- high bits and low bits.
+-- Laws of the sum, which is exclusive or. In order: high bits, low bits, the lowest bit; the laws of a group in which each number is its own
+-- inverse; bounds.
 use mathlib.Core.Path.{_≡_, refl, sym, ap, _∙_}
 use Prim.Native.Nat.{ℕ, zero, suc, _+_, _*_, _/_, _%_, _^_, _<_}
 use native.Mathlib.Omega.{arith}
@@ -7,9 +7,14 @@ use lib.Arith.{bin-ind}
 use lib.Bits.{differ, xor-step, xor-shr, xor-mod, xor-comm, xor-zero-r, xor-self, xor-lt}
 use Rattle.field.specs.Number.{add}
 
-pub add-half : (a b : ℕ) → add a b / 2 ≡ add (a / 2) (b / 2)
+-- high bits and low bits, in the form of `Linear`
+pub add-shr : (k a b : ℕ) → add a b / 2 ^ k ≡ add (a / 2 ^ k) (b / 2 ^ k)
 unfolding add
-add-half a b = xor-shr a b 1
+add-shr k a b = xor-shr a b k
+
+pub add-mod : (k a b : ℕ) → add a b % 2 ^ k ≡ add (a % 2 ^ k) (b % 2 ^ k)
+unfolding add
+add-mod k a b = xor-mod a b k
 
 differ-below : (x y : ℕ) → x < 2 → y < 2 → differ x y < 2
 differ-below zero y h k = k
@@ -48,7 +53,7 @@ add-zero = xor-zero-r
 assoc-step : (a b c : ℕ) → add (add (a / 2) (b / 2)) (c / 2) ≡ add (a / 2) (add (b / 2) (c / 2)) → add (add a b) c ≡ add a (add b c)
 assoc-step a b c ih =
     rw (add-step (add a b) c, add-step a (add b c))
-    (simp (add-half, add-odd, ih, differ-assoc (a % 2) (b % 2) (c % 2) (omega arith) (omega arith) (omega arith)))
+    (simp (add-shr 1, add-odd, ih, differ-assoc (a % 2) (b % 2) (c % 2) (omega arith) (omega arith) (omega arith)))
 
 pub add-assoc : (a b c : ℕ) → add (add a b) c ≡ add a (add b c)
 add-assoc =
@@ -76,11 +81,3 @@ pub ruleset sums = (add-assoc, add-comm, add-left-comm, add-zero, zero-add, add-
 pub add-below : (k a b : ℕ) → a < 2 ^ k → b < 2 ^ k → add a b < 2 ^ k
 unfolding add
 add-below = xor-lt
-
-pub add-shr : (a b k : ℕ) → add a b / 2 ^ k ≡ add (a / 2 ^ k) (b / 2 ^ k)
-unfolding add
-add-shr = xor-shr
-
-pub add-mod : (a b k : ℕ) → add a b % 2 ^ k ≡ add (a % 2 ^ k) (b % 2 ^ k)
-unfolding add
-add-mod = xor-mod

@@ -1,7 +1,6 @@
 -- What this crate promises.
 --   Number     == the numbers 0 to 255: sum, product, power
 --   Polynomial == the product as the standard prints it
---   Promise    == what each function promises of its result
 --   Promise    == what each public function promises
 pub mod Number
 pub mod Polynomial

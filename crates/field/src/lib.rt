@@ -7,7 +7,7 @@
 //
 // Which product to use. `mul` for one product: it adds logarithms, and reads the two tables. A constant table that is
 // indexed is copied to the stack at every use, so that a loop over bytes calls `times`: it goes by the bits of its second
-// factor, reads no table, and becomes vector code. Both keep the same promise, 0 included. `double` is the product by 2.
+// factor and reads no table. Both keep the same promise, 0 included. `double` is the product by 2.
 mod answers;
 mod bits;
 mod dividing;

@@ -1,5 +1,5 @@
 -- Laws of counting. In order: clauses; a function changed at one place, a set less one; equal and nested sets, none and all; two sets that differ at
--- one place; a full and an empty set; a set cut in two; a member and a number outside; lists; a bound on a set; a set made bigger.
+-- one place; a set cut in two; a member and a number outside; lists; a bound on a set; a set made bigger.
 use mathlib.Core.Path.{_≡_, refl, sym, ap, _∙_}
 use mathlib.Core.Logic.{_⊎_, inl, inr}
 use mathlib.Core.Bool.{Bool, true, false, cond, not, _&&_, true≢false, false≢true}
@@ -10,7 +10,7 @@ use native.Mathlib.Omega.{arith}
 use native.Mathlib.Decide.{ℕ-discrete}
 use lib.Arith.{lt-of-le-ne}
 use lib.Dec.{eqb}
-use borrow.Author.Tests.{eq-eqb, ne-eqb}
+use borrow.Author.Tests.{eq-eqb, ne-eqb, not-true}
 use Rattle.theory.specs.Set.{one-if, count, changed, without, Lists, Grown}
 
 pub count-zero : (L : ℕ → Bool) → count 0 L ≡ 0
@@ -89,20 +89,6 @@ pub count-remove : (n j : ℕ) (L : ℕ → Bool) → j < n → L j ≡ true →
 count-remove n j L l h =
     omega (arith, simp (changed-same, h) at (count-change n j (without j L) L l (λ i m ne. changed-other j false L i ne)))
 
-pub count-full : (n : ℕ) (L : ℕ → Bool) → count n L ≡ n → (i : ℕ) → i < n → L i ≡ true
-count-full n L e i l = go (L i) refl
-  where
-    go : (b : Bool) → L i ≡ b → b ≡ true
-    go true h = refl
-    go false h = absurd (omega (arith, count-with n i L l h, count-le n (changed i true L)))
-
-pub count-empty : (n : ℕ) (L : ℕ → Bool) → count n L ≡ 0 → (i : ℕ) → i < n → L i ≡ false
-count-empty n L e i l = go (L i) refl
-  where
-    go : (b : Bool) → L i ≡ b → b ≡ false
-    go true h = absurd (omega (arith, count-remove n i L l h))
-    go false h = refl
-
 pub count-split : (a b : ℕ) (L : ℕ → Bool) → count (a + b) L ≡ count a L + count b (λ i. L (a + i))
 count-split a zero L = simp (add-zero, count-zero)
 count-split a (suc b) L = simp (add-suc, count-suc, count-split a b L) (omega arith)
@@ -126,14 +112,10 @@ count-pos (suc n) L h = go (L n) refl (count-pos n L)
 
 -- a set that is not all has a number outside it
 pub count-room : (n : ℕ) (L : ℕ → Bool) → count n L < n → (i : ℕ) × (i < n) × (L i ≡ false)
-count-room n L h = (free .0, free .1, turned (L (free .0)) (free .2))
+count-room n L h = (free .0, free .1, not-true (L (free .0)) (free .2))
   where
     free : (i : ℕ) × (i < n) × (not (L i) ≡ true)
     free = count-pos n (λ i. not (L i)) (omega (arith, count-add n (λ i. true) L, count-all n (λ i. true) (λ i l. refl)))
-
-    turned : (b : Bool) → not b ≡ true → b ≡ false
-    turned true e = absurd (false≢true e)
-    turned false e = refl
 
 pub lists-less : (n : ℕ) (L : ℕ → Bool) (k : ℕ) (e : ℕ → ℕ) → Lists n L (suc k) e → Lists n (without (e k) L) k e
 lists-less n L k e l = record {

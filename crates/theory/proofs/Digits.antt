@@ -1,5 +1,5 @@
--- Laws of digits and of nodes, to a base s of at least 1. In order: clauses; the digits of a row with one digit set; setting twice, to what it is, in
--- either order; the bound kept; digits settle the row; closed forms; nodes by group and place.
+-- Laws of digits and of nodes, to a base s of at least 1. In order: clauses; the digits of a row with one digit set; setting twice, to what it is;
+-- the bound kept; digits settle the row; closed forms; nodes by group and place.
 use mathlib.Core.Path.{_≡_, refl, sym, ap, ap₂, _∙_}
 use Prim.Native.Nat.{ℕ, zero, suc, _+_, _*_, _/_, _%_, _^_, _<_}
 use native.Mathlib.Nat.{mod-lt, div-add-mod', div-lt-iff-lt-mul, div-div-eq-div-mul, pow-zero, pow-suc, pow-succ', one-le-pow, mod-one, div-one, mul-one, one-mul, add-zero, mul-comm}
@@ -59,16 +59,6 @@ module _ (s : ℕ) (some : 0 < s) where
 
   pub set-same : (a v u : ℕ) → digit s a v ≡ u → withDigit s a v u ≡ a
   set-same a v u e = rw (← e) (set-digit a v)
-
-  set-lowest-comm : (a w x y : ℕ) → x < s → withDigit s (withDigit s a 0 x) (suc w) y ≡ withDigit s (withDigit s a (suc w) y) 0 x
-  set-lowest-comm a w x y h =
-      simp (set-zero, set-suc, digits-div (a / s) h, digits-mod (a / s) h, digits-div (withDigit s (a / s) w y) (mod-lt a some))
-
-  pub set-comm : (a v w x y : ℕ) → x < s → y < s → (v ≡ w → ⊥) → withDigit s (withDigit s a v x) w y ≡ withDigit s (withDigit s a w y) v x
-  set-comm a zero zero x y h k ne = absurd (ne refl)
-  set-comm a zero (suc w) x y h k ne = set-lowest-comm a w x y h
-  set-comm a (suc v) zero x y h k ne = sym (set-lowest-comm a v y x k)
-  set-comm a (suc v) (suc w) x y h k ne = simp (set-both, set-comm (a / s) v w x y h k (λ e. ne (ap suc e)))
 
   shorter : (m a : ℕ) → a < s ^ suc m → a / s < s ^ m
   shorter m a h = div-lt-iff-lt-mul some .1 (rw pow-suc at h)

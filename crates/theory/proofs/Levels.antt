@@ -122,7 +122,7 @@ module _ (c : Code) (h : Lawful c) (k : ℕ) (free L : ℕ → Bool) (B : Stripe
   unfolding weight
   lost-mate-weight a al at-n i il into bound ne into′ =
       ap₂ (weighed c (side s a i)) own (other ∙ simp (mate-flips s some, mate-mate-row s some, mate-mate-node s some))
-      ∙ pair-reached c h (side s a i) (x a i) (x (mateRow s a i) (mateNode s a i)) ne
+      ∙ pair-reached c h (side s a i) (x a i) (x (mateRow s a i) (mateNode s a i)) ne .0
     where
       some : 0 < s
       some = h .some-place

@@ -72,7 +72,7 @@ module _ (c : Code) where
   pub whole-scaled : (r : ℕ) (z : K) (C : Stripe c) → Whole c r C → Whole c r (scaled c z C)
   whole-scaled r z C g a l = meets-scaled r z C a (g a l)
 
-  -- filling is linear: what fills a sum is the sum of what fills, and so with a multiple, by 0 too
+  -- filling is linear: the sum of two fillings is a filling of the sum, and so with a multiple, by 0 too
   pub fills-add : (r : ℕ) (L : ℕ → Bool) (C D C′ D′ : Stripe c) → Fills c r L C D → Fills c r L C′ D′ → Fills c r L (plus c C C′) (plus c D D′)
   fills-add r L C D C′ D′ g h = record {
     whole = whole-add r D D′ (g .whole) (h .whole);

@@ -5,14 +5,8 @@ use Prim.Native.Nat.{ℕ, zero, suc, _*_, _^_, _<_, zero-le, suc-le-suc, compare
 use native.Mathlib.Omega.{arith}
 use Rattle.theory.specs.Digit.{digit, group, place, node}
 use Rattle.theory.specs.Weight.{mateNode, mateRow, side}
-use Rattle.theory.specs.Pair.{flipped}
+use Rattle.theory.specs.Pair.{Compared, flipped}
 use Rattle.theory.proofs.Digits.{digit-lt, digit-set-same, digit-set-other, set-set, set-digit, set-same, set-lt, group-node, place-node, node-split, place-lt, group-lt, node-lt}
-
--- what an answer of the comparison says of the two numbers
-abbrev pub Compared : Ordering → ℕ → ℕ → Type 0
-Compared Ordering·lt x y = x < y
-Compared Ordering·eq x y = x ≡ y
-Compared Ordering·gt x y = y < x
 
 pub compare-says : (x y : ℕ) → Compared (compare x y) x y
 compare-says zero zero = refl
@@ -51,14 +45,14 @@ compare-flip x y = compare-only y x (flipped (compare x y)) (turned (compare x y
     turned Ordering·eq h = sym h
     turned Ordering·gt h = h
 
+pub flipped-flipped : (o : Ordering) → flipped (flipped o) ≡ o
+flipped-flipped Ordering·lt = refl
+flipped-flipped Ordering·eq = refl
+flipped-flipped Ordering·gt = refl
+
 -- seen from the other side a node off the row's digit is off it too
 pub flipped-off : (o : Ordering) → (o ≡ Ordering·eq → ⊥) → flipped o ≡ Ordering·eq → ⊥
-flipped-off o ne e = ne (back o ∙ ap flipped e)
-  where
-    back : (o : Ordering) → o ≡ flipped (flipped o)
-    back Ordering·lt = refl
-    back Ordering·eq = refl
-    back Ordering·gt = refl
+flipped-off o ne e = ne (sym (flipped-flipped o) ∙ ap flipped e)
 
 pub on-digit : (o : Ordering) → Dec (o ≡ Ordering·eq)
 on-digit Ordering·lt = no (λ e. let z : _≡_ {A = ℕ} 0 1 = cc in omega arith)

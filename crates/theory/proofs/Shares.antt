@@ -1,8 +1,8 @@
--- Laws of shares. In order: a share as a multiple of the own symbol and, at the row's digit, a spread; a sum over nodes by groups; the shares of
+-- Laws of shares. In order: a share as a multiple of the own symbol and, at the row's digit, a spread; the shares of
 -- all columns in an equation sum to the weighted sum of all weights; a zero column has zero shares, so
 -- that phantoms drop out.
 use mathlib.Core.Path.{_≡_, refl, sym, ap, ap₂, _∙_}
-use Prim.Native.Nat.{ℕ, compare, _+_, _-_, _*_, _<_, _≤_, Ordering, Ordering·lt, Ordering·eq, Ordering·gt}
+use Prim.Native.Nat.{ℕ, compare, _+_, _-_, _<_, _≤_, Ordering, Ordering·lt, Ordering·eq, Ordering·gt}
 use native.Mathlib.Nat.{add-sub-of-le}
 use native.Mathlib.Omega.{arith}
 use Rattle.theory.specs.Field.{Field}
@@ -52,10 +52,6 @@ module _ (c : Code) (h : Lawful c) where
       go Ordering·lt = below γ (power F (point i) t) (x a)
       go Ordering·eq = level (power F (point i) t) (x a) (spread c t (group s i) x a)
       go Ordering·gt = above (power F (point i) t) (x a)
-
-  pub sum-nodes : (k : ℕ) (f : ℕ → K) → sum F (k * s) f ≡ sum F k (λ v. sum F s (λ u. f (node s v u)))
-  unfolding node
-  sum-nodes k f = sum-groups F k s f
 
   -- node u of group v, and its mate, at row a
   side-node : (a v u : ℕ) → u < s → side s a (node s v u) ≡ compare u (digit s a v)
@@ -110,9 +106,9 @@ module _ (c : Code) (h : Lawful c) where
   pub equation-shares : (C : Stripe c) (a t : ℕ) → equation c C a t ≡ sum F (nodes c) (λ i. share c t i (C i) a)
   unfolding equation moment
   equation-shares C a t =
-      sum-nodes m _
+      sum-groups F m s _
       ∙ sum-ext F m _ _ (λ v l. sym (group-shares t v C a))
-      ∙ sym (sum-nodes m (λ i. share c t i (C i) a))
+      ∙ sym (sum-groups F m s (λ i. share c t i (C i) a))
 
   -- a node at the row's digit spreads
   pub share-own : (t i : ℕ) (x : ℕ → K) (a : ℕ) → side s a i ≡ Ordering·eq → share c t i x a ≡ spread c t (group s i) x a

@@ -8,6 +8,7 @@ use native.Mathlib.Omega.{arith}
 use lib.Dec.{eqb}
 use borrow.Author.Tests.{eqb-true, eqb-false, eq-eqb, ne-eqb}
 use Rattle.theory.specs.Field.{Field}
+use Rattle.theory.specs.Digit.{node}
 use Rattle.theory.specs.Sum.{sum, sumOver}
 use Rattle.theory.specs.Set.{changed, without, Lists}
 use Rattle.theory.proofs.Ring.{ring}
@@ -54,7 +55,9 @@ module _ (F : Field) where
   sum-split n zero f = simp (add-zero, sum-zero, ring)
   sum-split n (suc k) f = simp (add-suc, sum-suc, sum-split n k f, ring)
 
-  pub sum-groups : (m s : ℕ) (f : ℕ → K) → sum F (m * s) f ≡ sum F m (λ v. sum F s (λ u. f (v * s + u)))
+  -- by the groups of s nodes
+  pub sum-groups : (m s : ℕ) (f : ℕ → K) → sum F (m * s) f ≡ sum F m (λ v. sum F s (λ u. f (node s v u)))
+  unfolding node
   sum-groups zero s f = simp (zero-mul, sum-zero)
   sum-groups (suc m) s f = simp (suc-mul, sum-split, sum-suc, sum-groups m s f)
 

@@ -29,24 +29,21 @@ module _ (c : Code) where
   open Field F using (K, add as _⊕_)
 
   infixl 60 _⊕_
-  -- the weights of lost nodes, on the one side, and of kept ones, on the other
-  pub lost-system : (k : ℕ) (L : ℕ → Bool) (C : Stripe c) (a : ℕ)
+  -- the lost nodes as a list e: as many unknowns as are lost, and the kept weights on the other side
+  pub lost-system : (k q : ℕ) (L : ℕ → Bool) (e : ℕ → ℕ) (C : Stripe c) (a : ℕ) → Lists (nodes c) L q e
       → MeetsRow c k C a
-      ↔ ((t : ℕ) → t < k → momentOver F (nodes c) L point (weight c C a) t ≡ momentOver F (nodes c) (λ i. not (L i)) point (weight c C a) t)
+      ↔ ((t : ℕ) → t < k → moment F q (λ j. point (e j)) (λ j. weight c C a (e j)) t ≡ momentOver F (nodes c) (λ i. not (L i)) point (weight c C a) t)
   unfolding equation
-  lost-system k L C a = (
+  lost-system k q L e C a lists = (
     λ w t l. R.zero→equal F (sym (split t) ∙ w t l),
     λ w t l. split t ∙ R.equal→zero F (w t l),
   )
     where
       split : (t : ℕ) → moment F (nodes c) point (weight c C a) t
-          ≡ momentOver F (nodes c) L point (weight c C a) t ⊕ momentOver F (nodes c) (λ i. not (L i)) point (weight c C a) t
-      split t = moment-over-split F (nodes c) L point (weight c C a) t
-
-  -- with the lost nodes as a list e, k unknowns in k equations
-  pub lost-listed : (k : ℕ) (L : ℕ → Bool) (e : ℕ → ℕ) (x : ℕ → K) (t : ℕ) → Lists (nodes c) L k e
-      → momentOver F (nodes c) L point x t ≡ moment F k (λ j. point (e j)) (λ j. x (e j)) t
-  lost-listed k L e x t l = moment-over-list F (nodes c) L k e point x t l
+          ≡ moment F q (λ j. point (e j)) (λ j. weight c C a (e j)) t ⊕ momentOver F (nodes c) (λ i. not (L i)) point (weight c C a) t
+      split t =
+          moment-over-split F (nodes c) L point (weight c C a) t
+          ∙ ap (λ w. w ⊕ momentOver F (nodes c) (λ i. not (L i)) point (weight c C a) t) (moment-over-list F (nodes c) L q e point (weight c C a) t lists)
 
 module _ (c : Code) (h : Lawful c) where
   open Code c using (field as F, s, m, point)

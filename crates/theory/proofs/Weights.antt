@@ -12,7 +12,7 @@ use Rattle.theory.specs.Weight.{weighed, weight, side, mateNode, mateRow
 use Rattle.theory.specs.Pair.{flipped, factor, unpaired}
 use Rattle.theory.proofs.Ring as R
 use Rattle.theory.proofs.Ring.{ring}
-use Rattle.theory.proofs.Mates.{mate-own, mate-flips, mate-mate-node, mate-mate-row}
+use Rattle.theory.proofs.Mates.{flipped-flipped, flipped-off, mate-own, mate-flips, mate-mate-node, mate-mate-row}
 
 module _ (c : Code) (h : Lawful c) where
   open Code c using (field as F, s, γ)
@@ -48,17 +48,27 @@ module _ (c : Code) (h : Lawful c) where
   γ-and-one : γ ⊕ 𝟙 ≡ 𝟘 → ⊥
   γ-and-one e = h .γ-not-one (R.zero→equal F e)
 
-  pub pair-only : (o : Ordering) (x y : K) → (o ≡ Ordering·eq → ⊥) → unpaired c o (weighed c o x y) (weighed c (flipped o) y x) ≡ x
+  own-only : (o : Ordering) (x y : K) → (o ≡ Ordering·eq → ⊥) → unpaired c o (weighed c o x y) (weighed c (flipped o) y x) ≡ x
   unfolding unpaired weighed factor
-  pair-only Ordering·lt x y ne = ap (λ w. inverse (γ ⊕ 𝟙) ⊗ w) (simp ring) ∙ R.mul-inverse-left F (γ ⊕ 𝟙) x γ-and-one
-  pair-only Ordering·eq x y ne = absurd (ne refl)
-  pair-only Ordering·gt x y ne = ap (λ w. inverse (γ ⊕ 𝟙) ⊗ w) (simp ring) ∙ R.mul-inverse-left F (γ ⊕ 𝟙) x γ-and-one
+  own-only Ordering·lt x y ne = ap (λ w. inverse (γ ⊕ 𝟙) ⊗ w) (simp ring) ∙ R.mul-inverse-left F (γ ⊕ 𝟙) x γ-and-one
+  own-only Ordering·eq x y ne = absurd (ne refl)
+  own-only Ordering·gt x y ne = ap (λ w. inverse (γ ⊕ 𝟙) ⊗ w) (simp ring) ∙ R.mul-inverse-left F (γ ⊕ 𝟙) x γ-and-one
 
-  pub pair-reached : (o : Ordering) (w w′ : K) → (o ≡ Ordering·eq → ⊥) → weighed c o (unpaired c o w w′) (unpaired c (flipped o) w′ w) ≡ w
+  own-reached : (o : Ordering) (w w′ : K) → (o ≡ Ordering·eq → ⊥) → weighed c o (unpaired c o w w′) (unpaired c (flipped o) w′ w) ≡ w
   unfolding unpaired weighed factor
-  pair-reached Ordering·lt w w′ ne = _∙_ {b = (γ ⊕ 𝟙) ⊗ (inverse (γ ⊕ 𝟙) ⊗ w)} (simp ring) (R.mul-inverse-right F (γ ⊕ 𝟙) w γ-and-one)
-  pair-reached Ordering·eq w w′ ne = absurd (ne refl)
-  pair-reached Ordering·gt w w′ ne = _∙_ {b = (γ ⊕ 𝟙) ⊗ (inverse (γ ⊕ 𝟙) ⊗ w)} (simp ring) (R.mul-inverse-right F (γ ⊕ 𝟙) w γ-and-one)
+  own-reached Ordering·lt w w′ ne = _∙_ {b = (γ ⊕ 𝟙) ⊗ (inverse (γ ⊕ 𝟙) ⊗ w)} (simp ring) (R.mul-inverse-right F (γ ⊕ 𝟙) w γ-and-one)
+  own-reached Ordering·eq w w′ ne = absurd (ne refl)
+  own-reached Ordering·gt w w′ ne = _∙_ {b = (γ ⊕ 𝟙) ⊗ (inverse (γ ⊕ 𝟙) ⊗ w)} (simp ring) (R.mul-inverse-right F (γ ⊕ 𝟙) w γ-and-one)
+
+  -- two weights settle two symbols
+  pub pair-only : (o : Ordering) (x y : K) → (o ≡ Ordering·eq → ⊥)
+      → (unpaired c o (weighed c o x y) (weighed c (flipped o) y x) ≡ x) × (unpaired c (flipped o) (weighed c (flipped o) y x) (weighed c o x y) ≡ y)
+  pair-only o x y ne = (own-only o x y ne, rw flipped-flipped at (own-only (flipped o) y x (flipped-off o ne)))
+
+  -- and every two weights are reached
+  pub pair-reached : (o : Ordering) (w w′ : K) → (o ≡ Ordering·eq → ⊥)
+      → (weighed c o (unpaired c o w w′) (unpaired c (flipped o) w′ w) ≡ w) × (weighed c (flipped o) (unpaired c (flipped o) w′ w) (unpaired c o w w′) ≡ w′)
+  pair-reached o w w′ ne = (own-reached o w w′ ne, rw flipped-flipped at (own-reached (flipped o) w′ w (flipped-off o ne)))
 
   pub unpaired-zero : (o : Ordering) → unpaired c o 𝟘 𝟘 ≡ 𝟘
   unfolding unpaired
@@ -74,7 +84,7 @@ module _ (c : Code) (h : Lawful c) where
   pub symbol-paired : (C : Stripe c) (a i : ℕ) → (side s a i ≡ Ordering·eq → ⊥)
       → unpaired c (side s a i) (weight c C a i) (weight c C (mateRow s a i) (mateNode s a i)) ≡ C i a
   unfolding weight
-  symbol-paired C a i ne = ap (unpaired c (side s a i) (weight c C a i)) (weight-mate C a i) ∙ pair-only (side s a i) _ _ ne
+  symbol-paired C a i ne = ap (unpaired c (side s a i) (weight c C a i)) (weight-mate C a i) ∙ pair-only (side s a i) _ _ ne .0
 
   -- a weight and the mate's symbol settle the own
   pub symbol-single : (C : Stripe c) (a i : ℕ) → (side s a i ≡ Ordering·eq → ⊥)

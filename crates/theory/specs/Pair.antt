@@ -1,9 +1,16 @@
 -- The coupled pair: a node and its mate, each at its own row, whose weights hold both symbols.
+--   Compared o x y    == what the answer o of comparing x with y says of them
 --   flipped o         == the comparison from the other side
 --   factor c o        == what a weight takes of the own symbol, beside the mate's; at the row's digit 0, since the mate is the node itself
 --   unpaired c o w w′ == the own symbol, from the own weight w and the mate's weight w′
-use Prim.Native.Nat.{Ordering, Ordering·lt, Ordering·eq, Ordering·gt}
+use mathlib.Core.Path.{_≡_}
+use Prim.Native.Nat.{ℕ, _<_, Ordering, Ordering·lt, Ordering·eq, Ordering·gt}
 use Rattle.theory.specs.Code.{Code}
+
+abbrev pub Compared : Ordering → ℕ → ℕ → Type 0
+Compared Ordering·lt x y = x < y
+Compared Ordering·eq x y = x ≡ y
+Compared Ordering·gt x y = y < x
 
 abbrev pub flipped : Ordering → Ordering
 flipped Ordering·lt = Ordering·gt
