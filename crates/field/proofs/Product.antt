@@ -159,7 +159,7 @@ mul-bits a b h =
     let e : a % 256 ≡ a = omega arith in
     ap (λ x. byBits 8 x b) e ∙ byBits-sum 8 a b h
 
-pub mul-eight-bits : (a b : ℕ) → a < 256
+eight-bits : (a b : ℕ) → a < 256
     → let a1 = mul a 2 in
     let a2 = mul a1 2 in
     let a3 = mul a2 2 in
@@ -171,4 +171,24 @@ pub mul-eight-bits : (a b : ℕ) → a < 256
     ≡ add (add (add (add (b % 2 * a) (b / 2 % 2 * a1)) (b / 4 % 2 * a2)) (b / 8 % 2 * a3))
     (add (add (add (b / 16 % 2 * a4) (b / 32 % 2 * a5)) (b / 64 % 2 * a6)) (b / 128 % 2 * a7))
 unfolding bitSum
-mul-eight-bits a b h = mul-bits a b h ∙ simp (N.div-div-eq-div-mul, sums)
+eight-bits a b h = mul-bits a b h ∙ simp (N.div-div-eq-div-mul, sums)
+
+-- the same step by step: seven doublings, eight terms, and their sum
+pub mul-eight-bits : (a b : ℕ) {a1 a2 a3 a4 a5 a6 a7 b0 b1 b2 b3 b4 b5 b6 b7 : ℕ} → a < 256
+    → a1 ≡ mul a 2
+    → a2 ≡ mul a1 2
+    → a3 ≡ mul a2 2
+    → a4 ≡ mul a3 2
+    → a5 ≡ mul a4 2
+    → a6 ≡ mul a5 2
+    → a7 ≡ mul a6 2
+    → b0 ≡ b % 2 * a
+    → b1 ≡ b / 2 % 2 * a1
+    → b2 ≡ b / 4 % 2 * a2
+    → b3 ≡ b / 8 % 2 * a3
+    → b4 ≡ b / 16 % 2 * a4
+    → b5 ≡ b / 32 % 2 * a5
+    → b6 ≡ b / 64 % 2 * a6
+    → b7 ≡ b / 128 % 2 * a7
+    → add (add (add (add b0 b1) b2) b3) (add (add (add b4 b5) b6) b7) ≡ mul a b
+mul-eight-bits a b h p1 p2 p3 p4 p5 p6 p7 q0 q1 q2 q3 q4 q5 q6 q7 = cc (eight-bits a b h)

@@ -178,14 +178,14 @@ module _ (c : Code) (h : Lawful c) (k : ℕ) (free L : ℕ → Bool) (exact : co
   open Code c using (field as F, s, m, point)
   open Field F using (K)
 
-  -- the weights of lost nodes at a row, solved for
-  known : Stripe c → ℕ → ℕ → K
-  known E a t = momentOver F (nodes c) (λ i. not (L i)) point (weightFree c free E a) t
+  -- the sums over the kept nodes at a row, and the weights of lost nodes solved for
+  kept-sums : Stripe c → ℕ → ℕ → K
+  kept-sums E a t = momentOver F (nodes c) (λ i. not (L i)) point (weightFree c free E a) t
 
-  found : (E : Stripe c) (a : ℕ) → (x : ℕ → K) × Reaches F point (nodes c) k L (known E a) x
-  found E a = vandermonde-reached F point (nodes c) k L (known E a) (h .distinct) exact
+  found : (E : Stripe c) (a : ℕ) → (x : ℕ → K) × Reaches F point (nodes c) k L (kept-sums E a) x
+  found E a = vandermonde-reached F point (nodes c) k L (kept-sums E a) (h .distinct) exact
 
-  found-solves : (E : Stripe c) (a t : ℕ) → t < k → momentOver F (nodes c) L point (found E a .0) t ≡ known E a t
+  found-solves : (E : Stripe c) (a t : ℕ) → t < k → momentOver F (nodes c) L point (found E a .0) t ≡ kept-sums E a t
   found-solves E a t l =
       let x = found E a in sym (moment-inside F (nodes c) L point (x .0) t (λ i il out. x .1 .off i out)) ∙ x .1 .sums t l
 
@@ -193,7 +193,7 @@ module _ (c : Code) (h : Lawful c) (k : ℕ) (free L : ℕ → Bool) (exact : co
   next n E i a = cond (L i && eqb (score s m free L a) n) (symbolFrom c free L E (λ a. found E a .0) a i) (E i a)
 
   next-step : (n : ℕ) (E : Stripe c) → Stepped c k free L n E (λ a. found E a .0) (next n E)
-  unfolding next known
+  unfolding next kept-sums
   next-step n E = record {
     solved = λ a al at-n t l. found-solves E a t l;
     stored = λ i a il al into at-n. rw (into, eq-eqb _ n at-n);

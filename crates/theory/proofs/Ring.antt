@@ -1,4 +1,5 @@
--- Laws of a field of characteristic 2.
+-- Laws of a field of characteristic 2. In order: its laws as lemmas, and what follows, for `ring`, by which `simp` closes identities; what is zero and what is
+-- equal; inverses; cancelling.
 use mathlib.Core.Path.{_≡_, sym, ap, ap₂, _∙_}
 use Rattle.theory.specs.Field.{Field}
 
@@ -70,15 +71,15 @@ module _ (F : Field) where
   pub mul-inverse-right : (x y : K) → (x ≡ 𝟘 → ⊥) → x ⊗ (inverse x ⊗ y) ≡ y
   mul-inverse-right x y h = mul-left-comm x (inverse x) y ∙ mul-inverse-left x y h
 
+  pub add-cancel-right : {x y : K} (z : K) → x ⊕ z ≡ y ⊕ z → x ≡ y
+  add-cancel-right {x} {y} z h = simp ring at (ap (λ w. w ⊕ z) h)
+
   pub mul-cancel-right : {x y : K} (z : K) → (z ≡ 𝟘 → ⊥) → x ⊗ z ≡ y ⊗ z → x ≡ y
   mul-cancel-right {x} {y} z h e =
       sym (mul-inverse-left z x h) ∙ ap (λ w. inverse z ⊗ w) (mul-comm z x ∙ e ∙ mul-comm y z) ∙ mul-inverse-left z y h
 
   pub factor-zero : {x y : K} → (x ≡ 𝟘 → ⊥) → x ⊗ y ≡ 𝟘 → y ≡ 𝟘
   factor-zero {x} {y} h e = sym (mul-inverse-left x y h) ∙ ap (λ w. inverse x ⊗ w) e ∙ mul-zero (inverse x)
-
-  pub add-cancel-right : {x y : K} (z : K) → x ⊕ z ≡ y ⊕ z → x ≡ y
-  add-cancel-right {x} {y} z h = simp ring at (ap (λ w. w ⊕ z) h)
 
   pub add-twice : (x y : K) → x ⊕ y ⊕ y ≡ x
   add-twice x y = simp ring

@@ -34,6 +34,7 @@ module _ (c : Code) (h : Lawful c) where
 
   infixl 60 _⊕_
   infixl 70 _⊗_
+  -- the three cases of a share, each as an identity over any numbers
   below : (g p x : K) → g ⊗ p ⊗ x ≡ p ⊗ (g ⊗ x) ⊕ 𝟘
   below g p x = simp ring
 

@@ -10,6 +10,7 @@
 use Prim.Native.Nat.{ℕ, _*_, _^_, _<_}
 use mathlib.Core.Path.{_≡_}
 use Rattle.theory.specs.Field.{Field}
+use Rattle.theory.specs.System.{Distinct}
 
 pub record Code : Type 1 where
   pub field : Field
@@ -35,6 +36,6 @@ scaled c z C i a = c .field .mul z (C i a)
 
 pub record Lawful (c : Code) : Type 0 where
   pub some-place : 0 < c .s
-  pub distinct : (i j : ℕ) → i < nodes c → j < nodes c → c .point i ≡ c .point j → i ≡ j
+  pub distinct : Distinct (c .field) (c .point) (nodes c)
   pub γ-not-zero : c .γ ≡ c .field .zero → ⊥
   pub γ-not-one : c .γ ≡ c .field .one → ⊥

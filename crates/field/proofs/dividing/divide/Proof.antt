@@ -1,6 +1,8 @@
 -- `field::divide` meets its contract: where neither number is 0, the power of 2 whose exponent is the difference of the logarithms, plus
 -- 255 so that it is not below 0, is the quotient.
 -- Assumes nothing.
+use mathlib.Core.Path.{sym, ap, ap₂, _∙_}
+use Rattle.field.specs.Number.{mul, power}
 use Rattle.field.proofs.Product.{zero-mul}
 use Rattle.field.proofs.Logarithms.{quotient-by-logs}
 use native.Mathlib.Omega.{arith}
@@ -12,7 +14,7 @@ returns : tie.Need-returns
 returns c = search needs
 
 returns-2 : tie.Need-returns-2
-returns-2 c = record { divisor = search needs; small = search needs; value = cc (zero-mul (c .before .before .args .b)) }
+returns-2 c = record { divisor = search needs; small = search needs; value = zero-mul (c .before .before .args .b) ∙ sym (c .if2 .taken) }
 
 logarithm-requires : tie.Need-logarithm-requires
 logarithm-requires c κs = search needs
@@ -36,11 +38,16 @@ power-of-two-requires : tie.Need-power-of-two-requires
 power-of-two-requires c κs = search needs
 
 returns-3 : tie.Need-returns-3
-returns-3 c = record {
-  divisor = search needs;
-  small = search needs;
-  value = cc (quotient-by-logs (c .before .before .before .wide .result) (c .before .wide2 .result) (search needs));
-}
+returns-3 c =
+    let ca = c .before .before .before in
+    let cb = c .before in
+    let a-is = ap (power 2) (ca .wide .ensures .0) ∙ ca .before .logarithm .ensures .1 in
+    let b-is = ap (power 2) (cb .wide2 .ensures .0) ∙ cb .before .logarithm2 .ensures .1 in
+    record {
+      divisor = search needs;
+      small = search needs;
+      value = ap₂ mul (c .power-of-two .ensures) (sym b-is) ∙ quotient-by-logs (ca .wide .result) (cb .wide2 .result) (search needs) ∙ a-is;
+    }
 
 pub divide-spec : {M : Type 1} → statement M
 divide-spec =

@@ -1,5 +1,7 @@
 -- `field::power` meets its contract: the logarithm times the exponent is an exponent of 2, and exponents of 2 wrap at 255.
 -- Assumes nothing.
+use mathlib.Core.Path.{sym, ap, _∙_}
+use Rattle.field.specs.Number.{power}
 use Rattle.field.proofs.Powers.{power-zero, zero-power}
 use Rattle.field.proofs.Logarithms.{power-by-log}
 use native.Mathlib.Omega.{arith}
@@ -10,10 +12,12 @@ use Rattle.field.proofs.raising.power.Statement.{statement}
 use Rattle.field.proofs.raising.power.Tie as tie
 
 returns : tie.Need-returns
-returns c = record { value = cc (power-zero (c .before .args .a)) }
+returns c = record { value = sym (ap (power (c .before .args .a)) (c .if1 .taken) ∙ power-zero (c .before .args .a)) }
 
 returns-2 : tie.Need-returns-2
-returns-2 c = record { value = cc (zero-power (c .before .before .args .t) (search needs)) }
+returns-2 c =
+    let t = c .before .before .args .t in
+    record { value = sym (ap (λ x. power x t) (c .if2 .taken) ∙ zero-power t (search needs)) }
 
 logarithm-requires : tie.Need-logarithm-requires
 logarithm-requires c κs = search needs
@@ -31,7 +35,11 @@ power-of-two-requires : tie.Need-power-of-two-requires
 power-of-two-requires c κs = search needs
 
 returns-3 : tie.Need-returns-3
-returns-3 c = record { value = cc (power-by-log (c .before .wide .result) (c .before .before .before .before .before .args .t)) }
+returns-3 c =
+    let l = c .before .wide .result in
+    let t = c .before .before .before .before .before .args .t in
+    let base = ap (power 2) (c .before .wide .ensures .0) ∙ c .before .before .logarithm .ensures .1 in
+    record { value = c .power-of-two .ensures ∙ power-by-log l t ∙ ap (λ x. power x t) base }
 
 pub power-spec : {M : Type 1} → statement M
 power-spec =
