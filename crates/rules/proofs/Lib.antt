@@ -1,0 +1,23 @@
+-- Why the promises hold, and what the rules are.
+--   Accepted  == what acceptance says of a shape; bounds of every accepted shape
+--   Measures  == what the answer of `measure` tells
+--   Risings   == lists of the numbers that pass a test
+--   RowsRead  == the rows read in closed form, fractions
+--   House     == the code of theory that a shape is; the points differ
+--   Ties      == the rules are theory's
+--   Layouts   == document 01, "Shape", sentence by sentence
+--   Weighing  == document 01, "The equations", sentence by sentence; the lowest failure
+--   Printed   == the rules are the paper's
+--   Benches   == the bench stripes
+--   Settled   == each promise settles its result, and rules wrong answers out
+pub mod Accepted
+pub mod Measures
+pub mod Risings
+pub mod RowsRead
+pub mod House
+pub mod Ties
+pub mod Layouts
+pub mod Weighing
+pub mod Printed
+pub mod Benches
+pub mod Settled
