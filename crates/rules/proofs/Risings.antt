@@ -1,5 +1,5 @@
--- Laws of lists of numbers in rising order. In order: clauses; what is listed; tests that agree, that nothing passes, that all pass; a list cut in
--- two; the length is the count; where a number stands in its list.
+-- Laws of lists of numbers in rising order. In order: clauses; what is listed; tests that agree, that nothing passes; a list cut in two;
+-- the length is the count; where a number stands in its list.
 use mathlib.Core.Path.{_≡_, refl, sym, ap, ap₂, _∙_}
 use mathlib.Core.Bool.{Bool, true, false, cond}
 use mathlib.Core.List.{List, [], _∷_, _++_, map, append-nil, append-assoc, map-append}
@@ -10,7 +10,7 @@ use native.Mathlib.Omega.{arith}
 use lib.ListN.{length, getD, length-append}
 use lib.Seq.{getD-append-seam}
 use Rattle.theory.specs.Set.{one-if, count}
-use Rattle.theory.proofs.Counts.{count-zero, count-suc, count-all}
+use Rattle.theory.proofs.Counts.{count-zero, count-suc}
 use Rattle.rules.specs.Rising.{rising, Listed}
 
 pub rising-zero : (L : ℕ → Bool) → rising 0 L ≡ []
@@ -107,9 +107,3 @@ getD-rising n L a h e =
         ap (λ k. rising k L) (sym q) ∙ rising-add (suc a) (n - suc a) L
         ∙ ap (λ (l : List ℕ). l ++ rest) (rising-take a L e)
         ∙ append-assoc (rising a L) (a ∷ []) rest
-
-pub length-rising-all : (n : ℕ) (L : ℕ → Bool) → ((a : ℕ) → a < n → L a ≡ true) → length (rising n L) ≡ n
-length-rising-all n L h = length-rising n L ∙ count-all n L h
-
-pub rising-all : (n : ℕ) (L : ℕ → Bool) → ((a : ℕ) → a < n → L a ≡ true) → (j : ℕ) → j < n → getD (rising n L) j 0 ≡ j
-rising-all n L h j l = rw (count-all j L (λ a m. h a (omega arith))) at (getD-rising n L j l (h j l))

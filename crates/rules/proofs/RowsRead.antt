@@ -104,7 +104,7 @@ module _ (s w u : ℕ) (some : 0 < w) (small : u < s) where
   row-count : (j : ℕ) → count (j / w * (w * s) + u * w + j % w) (marked s w u) ≡ j
   row-count j = ap (λ n. count n (marked s w u)) (omega arith) ∙ count-place (j / w) (j % w) (omega (arith, mod-lt j some)) ∙ div-add-mod' j w
 
-  row-lt : (h j : ℕ) → j < h * w → j / w * (w * s) + u * w + j % w < h * (w * s)
+  pub row-lt : (h j : ℕ) → j < h * w → j / w * (w * s) + u * w + j % w < h * (w * s)
   row-lt h j l =
       omega
       (arith, digits-lt {q = j / w} {m = h} {r = u * w + j % w} {c = w * s} (div-lt-iff-lt-mul some .1 l) (omega (arith, digits-lt small (mod-lt j some))))
@@ -191,12 +191,6 @@ module _ (sh : Shape) (b : Bounds sh) (f : ℕ) (first : 1 ≤ f) (last : f ≤ 
       ap (λ (l : List ℕ). getD l j 0) rows-read-marked
       ∙ getD-marked (groupSize sh) (worth sh (group sh f)) (place sh f) (worth-some sh b (group sh f)) (place-lt sh b f) (blocks sh f) j
       (rw fraction-split at h)
-
-  pub row-read-lt : (j : ℕ) → j < fractionLength sh
-      → j / worth sh (group sh f) * (worth sh (group sh f) * groupSize sh) + place sh f * worth sh (group sh f) + j % worth sh (group sh f) < rows sh
-  row-read-lt j h =
-      rw rows-split
-      (row-lt (groupSize sh) (worth sh (group sh f)) (place sh f) (worth-some sh b (group sh f)) (place-lt sh b f) (blocks sh f) j (rw fraction-split at h))
 
   pub fraction-length : (col : List ℕ) → length (fraction sh f col) ≡ fractionLength sh
   unfolding fraction
