@@ -7,6 +7,7 @@
 --   Ties      == the rules are theory's
 --   Layouts   == document 01, "Shape", sentence by sentence
 --   Weighing  == document 01, "The equations", sentence by sentence; the lowest failure
+--   Asking    == what an equation of a row read asks for
 --   Printed   == the rules are the paper's
 --   Benches   == the bench stripes
 --   Settled   == each promise settles its result, and rules wrong answers out
@@ -18,6 +19,7 @@ pub mod House
 pub mod Ties
 pub mod Layouts
 pub mod Weighing
+pub mod Asking
 pub mod Printed
 pub mod Benches
 pub mod Settled

@@ -131,6 +131,10 @@ cut-writes-nothing p = let e : _≡_ {A = ℕ} 0 6 = cut-at _ p 0 in omega arith
 pub cut-highest-digit-first : MeetsD Done (6 ∷ 15 ∷ []) → ⊥
 cut-highest-digit-first p = let e : _≡_ {A = ℕ} 15 12 = cut-at _ p 1 in omega arith
 
+-- the byte at row 0 for every row
+pub cut-row-0-for-all : MeetsD Done (6 ∷ 6 ∷ []) → ⊥
+cut-row-0-for-all p = let e : _≡_ {A = ℕ} 6 12 = cut-at _ p 1 in omega arith
+
 pub cut-wrong-byte : MeetsD Done (15 ∷ 12 ∷ []) → ⊥
 cut-wrong-byte p = let e : _≡_ {A = ℕ} 15 6 = cut-at _ p 0 in omega arith
 

@@ -30,13 +30,13 @@ pub fn lay(shape: Shape, rec: &[u8], stripe: &mut [u8]) -> Outcome
 }
 
 // Zero bytes from index `at` up to, not including, index `end`.
-fn clear(s: &mut [u8], at: usize, end: usize)
-    requires { ⌜ (at ≤ end) × (end ≤ length (now s)) ⌝ }
-    ensures { λ _. ⌜ now (s .exit) ≡ take at (now (s .entry)) ++ replicate (end - at) 0 ++ drop end (now (s .entry)) ⌝ }
+fn clear(list: &mut [u8], at: usize, end: usize)
+    requires { ⌜ (at ≤ end) × (end ≤ length (now list)) ⌝ }
+    ensures { λ _. ⌜ now (list .exit) ≡ take at (now (list .entry)) ++ replicate (end - at) 0 ++ drop end (now (list .entry)) ⌝ }
 {
     let mut i = at;
     while i < end {
-        s[i] = 0;
+        list[i] = 0;
         i = i + 1;
     }
 }

@@ -36,6 +36,13 @@ parts {s} {w} a hw hs hl =
       place-small = product-small (omega arith) (hw .1);
     }
 
+parts-at : (c : tie.In-loop Inv-loop μ-loop) →
+    let a = c .before .before .before .before .args in
+    Parts (a .s) (a .w) (length (a .weights .now)) (a .u) (c .before .loop .a)
+parts-at c =
+    let start = c .before .before .before .before in
+    parts (c .before .loop .a) (start .pre .0) (start .pre .1 .0) (start .pre .1 .1)
+
 -- the code's byte, from those that it reads, is the weight
 next-byte : (s w l : ℕ) (group : List ℕ) (u a : ℕ) {own other x : ℕ} → own ≡ getD group (u * l + a) 0
     → other ≡ getD group (a / w % s * l + (a - a / w % s * w + u * w)) 0 → x ≡ weighed (compare u (a / w % s)) own other
@@ -53,55 +60,31 @@ rem-d : tie.Need-rem-d Inv-loop μ-loop
 rem-d c = search needs
 
 mul-byte-at : tie.Need-mul-byte-at Inv-loop μ-loop
-mul-byte-at c =
-    let start = c .before .before .before .before in
-    let small = parts (c .before .loop .a) (start .pre .0) (start .pre .1 .0) (start .pre .1 .1) in
-    record { fits = omega arith }
+mul-byte-at c = let small = parts-at c in record { fits = omega arith }
 
 add-byte-at : tie.Need-add-byte-at Inv-loop μ-loop
-add-byte-at c =
-    let start = c .before .before .before .before in
-    let small = parts (c .before .loop .a) (start .pre .0) (start .pre .1 .0) (start .pre .1 .1) in
-    record { fits = omega arith }
+add-byte-at c = let small = parts-at c in record { fits = omega arith }
 
 byte-at-requires : tie.Need-byte-at-requires Inv-loop μ-loop
 byte-at-requires c κs = search needs
 
 mul-byte-at-2 : tie.Need-mul-byte-at-2 Inv-loop μ-loop
-mul-byte-at-2 c =
-    let start = c .before .before .before .before .before in
-    let small = parts (c .before .before .loop .a) (start .pre .0) (start .pre .1 .0) (start .pre .1 .1) in
-    record { fits = omega arith }
+mul-byte-at-2 c = let small = parts-at (c .before) in record { fits = omega arith }
 
 mul-byte-at-3 : tie.Need-mul-byte-at-3 Inv-loop μ-loop
-mul-byte-at-3 c =
-    let start = c .before .before .before .before .before in
-    let small = parts (c .before .before .loop .a) (start .pre .0) (start .pre .1 .0) (start .pre .1 .1) in
-    record { fits = omega arith }
+mul-byte-at-3 c = let small = parts-at (c .before) in record { fits = omega arith }
 
 sub-byte-at : tie.Need-sub-byte-at Inv-loop μ-loop
-sub-byte-at c =
-    let start = c .before .before .before .before .before in
-    let small = parts (c .before .before .loop .a) (start .pre .0) (start .pre .1 .0) (start .pre .1 .1) in
-    small .digit-within
+sub-byte-at c = parts-at (c .before) .digit-within
 
 mul-byte-at-4 : tie.Need-mul-byte-at-4 Inv-loop μ-loop
-mul-byte-at-4 c =
-    let start = c .before .before .before .before .before in
-    let small = parts (c .before .before .loop .a) (start .pre .0) (start .pre .1 .0) (start .pre .1 .1) in
-    record { fits = omega arith }
+mul-byte-at-4 c = let small = parts-at (c .before) in record { fits = omega arith }
 
 add-byte-at-2 : tie.Need-add-byte-at-2 Inv-loop μ-loop
-add-byte-at-2 c =
-    let start = c .before .before .before .before .before in
-    let small = parts (c .before .before .loop .a) (start .pre .0) (start .pre .1 .0) (start .pre .1 .1) in
-    record { fits = omega arith }
+add-byte-at-2 c = let small = parts-at (c .before) in record { fits = omega arith }
 
 add-byte-at-3 : tie.Need-add-byte-at-3 Inv-loop μ-loop
-add-byte-at-3 c =
-    let start = c .before .before .before .before .before in
-    let small = parts (c .before .before .loop .a) (start .pre .0) (start .pre .1 .0) (start .pre .1 .1) in
-    record { fits = omega arith }
+add-byte-at-3 c = let small = parts-at (c .before) in record { fits = omega arith }
 
 byte-at-requires-2 : tie.Need-byte-at-requires-2 Inv-loop μ-loop
 byte-at-requires-2 c κs = search needs

@@ -33,10 +33,10 @@ cleared-step before at end s i h k p = record {
 }
 
 loop-holds : tie.Need-loop-holds Inv-loop μ-loop
-loop-holds c = record { from = le-refl _; most = c .pre .0; same = refl; zeros = zeros-none (c .args .s .now) (c .args .at) }
+loop-holds c = record { from = le-refl _; most = c .pre .0; same = refl; zeros = zeros-none (c .args .list .now) (c .args .at) }
 
-slice-write-s : tie.Need-slice-write-s Inv-loop μ-loop
-slice-write-s c = search needs
+slice-write-list : tie.Need-slice-write-list Inv-loop μ-loop
+slice-write-list c = search needs
 
 add-i : tie.Need-add-i Inv-loop μ-loop
 add-i c = search needs
@@ -52,10 +52,10 @@ same-length c = c .before .loop .inv .same
 
 returns : tie.Need-returns Inv-loop μ-loop
 returns c =
-    let s = c .before .before .args .s .now in
+    let s = c .before .before .args .list .now in
     let at = c .before .before .args .at in
     c .before .loop .inv .zeros ∙ ap (λ i. take at s ++ replicate (i - at) 0 ++ drop i s) (le-antisymm (c .before .loop .inv .most) (c .loop-test .left))
 
 pub clear-spec : {M : Type 1} → statement M
 clear-spec =
-    tie.close (tie.spec Inv-loop μ-loop loop-holds slice-write-s add-i loop-less loop-again same-length returns)
+    tie.close (tie.spec Inv-loop μ-loop loop-holds slice-write-list add-i loop-less loop-again same-length returns)
