@@ -1,10 +1,10 @@
 -- Laws of counting. In order: clauses; a function changed at one place, a set less one; equal and nested sets, none and all; two sets that differ at
--- one place; a set cut in two; a member and a number outside; lists; a bound on a set; a set made bigger.
+-- one place; a set cut in two; a member and a number outside; lists; a wider bound; a set made bigger.
 use mathlib.Core.Path.{_≡_, refl, sym, ap, _∙_}
 use mathlib.Core.Logic.{_⊎_, inl, inr}
 use mathlib.Core.Bool.{Bool, true, false, cond, not, _&&_, true≢false, false≢true}
 use Prim.Native.Nat.{ℕ, zero, suc, _+_, _-_, _≤_, _<_}
-use native.Mathlib.Nat.{add-sub-of-le, add-suc, add-zero, eq-or-lt-of-le, le-of-suc-le-suc}
+use native.Mathlib.Nat.{add-sub-of-le, add-suc, add-zero, eq-or-lt-of-le, le-of-suc-le-suc, lt-of-not-le}
 use native.Mathlib.Numerals.{add-one}
 use native.Mathlib.Omega.{arith}
 use native.Mathlib.Decide.{ℕ-discrete}
@@ -138,7 +138,7 @@ lists-count n L (suc k) e l =
     count-remove n (e k) L (l .below k (omega arith)) (l .inside k (omega arith)) ∙ ap suc (lists-count n (without (e k) L) k e (lists-less n L k e l))
 
 -- one more number n, out of the set or in it
-lists-skip : (n : ℕ) (L : ℕ → Bool) (k : ℕ) (e : ℕ → ℕ) → L n ≡ false → Lists n L k e → Lists (suc n) L k e
+pub lists-skip : (n : ℕ) (L : ℕ → Bool) (k : ℕ) (e : ℕ → ℕ) → L n ≡ false → Lists n L k e → Lists (suc n) L k e
 lists-skip n L k e h l = record {
   below = λ j m. omega (arith, l .below j m);
   inside = l .inside;
@@ -146,7 +146,7 @@ lists-skip n L k e h l = record {
   all = λ i m q. l .all i (lt-of-le-ne (omega arith) (λ p. true≢false (sym q ∙ ap L p ∙ h))) q;
 }
 
-lists-more : (n : ℕ) (L : ℕ → Bool) (k : ℕ) (e : ℕ → ℕ) → L n ≡ true → Lists n L k e → Lists (suc n) L (suc k) (changed k n e)
+pub lists-more : (n : ℕ) (L : ℕ → Bool) (k : ℕ) (e : ℕ → ℕ) → L n ≡ true → Lists n L k e → Lists (suc n) L (suc k) (changed k n e)
 lists-more n L k e h l = record {
   below = λ j m. changed-case (λ y. y < suc n) k n e j (λ q. omega arith) (λ ne. omega (arith, l .below j (omega arith)));
   inside = λ j m. changed-case (λ y. L y ≡ true) k n e j (λ q. h) (λ ne. l .inside j (omega arith));
@@ -177,12 +177,26 @@ lists (suc n) L = go (L n) refl (lists n L)
     go true h l = (changed (count n L) n (l .0), rw (count-suc, h, add-one) (lists-more n L (count n L) (l .0) h (l .1)))
     go false h l = (l .0, rw (count-suc, h, add-zero) (lists-skip n L (count n L) (l .0) h (l .1)))
 
+-- cut in two at n
+count-cut : (n k : ℕ) (L : ℕ → Bool) → n ≤ k → count k L ≡ count n L + count (k - n) (λ i. L (n + i))
+count-cut n k L l = ap (λ j. count j L) (sym (add-sub-of-le l)) ∙ count-split n (k - n) L
+
+pub count-up : (n k : ℕ) (L : ℕ → Bool) → n ≤ k → count n L ≤ count k L
+count-up n k L l = omega (arith, count-cut n k L l)
+
 -- a set that has nothing from n on
 pub count-beyond : (n k : ℕ) (L : ℕ → Bool) → ((i : ℕ) → n ≤ i → L i ≡ false) → n ≤ k → count k L ≡ count n L
 count-beyond n k L h l =
-    ap (λ j. count j L) (sym (add-sub-of-le l))
-    ∙ count-split n (k - n) L
-    ∙ omega (arith, count-none (k - n) (λ i. L (n + i)) (λ i m. h (n + i) (omega arith)))
+    omega (arith, count-cut n k L l, count-none (k - n) (λ i. L (n + i)) (λ i m. h (n + i) (omega arith)))
+
+-- such a set's list serves for every wider bound
+pub lists-wider : (n n′ : ℕ) (L : ℕ → Bool) (k : ℕ) (e : ℕ → ℕ) → ((i : ℕ) → n ≤ i → L i ≡ false) → n ≤ n′ → Lists n L k e → Lists n′ L k e
+lists-wider n n′ L k e h w l = record {
+  below = λ j m. omega (arith, l .below j m);
+  inside = l .inside;
+  once = l .once;
+  all = λ i m q. l .all i (lt-of-not-le (λ p. true≢false (sym q ∙ h i p))) q;
+}
 
 -- a set made bigger, by one number at a time
 grow-one : (n r j : ℕ) (L M : ℕ → Bool) → j < n → Grown n r (changed j true L) M → Grown n r L M

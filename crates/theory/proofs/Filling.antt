@@ -1,9 +1,9 @@
--- Filling lost columns. In order: fewer equations, equal symbols; filling is unique, and it exists; with fewer lost than equations;
+-- Filling lost columns. In order: fewer equations, the last level, equal symbols; filling is unique, and it exists; with fewer lost than equations;
 -- filling is linear.
 use mathlib.Core.Path.{_≡_, refl, sym, _∙_}
 use mathlib.Core.Bool.{Bool, true, false, true≢false}
 use mathlib.Core.Logic.{_↔_}
-use Prim.Native.Nat.{ℕ, _<_, _≤_}
+use Prim.Native.Nat.{ℕ, suc, _<_, _≤_}
 use native.Mathlib.Omega.{arith}
 use Rattle.theory.specs.Field.{Field}
 use Rattle.theory.specs.Set.{count, Inside}
@@ -11,6 +11,7 @@ use Rattle.theory.specs.Code.{Code, Stripe, Lawful, nodes, rows, plus, s
 use Rattle.theory.specs.Power.{moment}
 use Rattle.theory.specs.Weight.{weight}
 use Rattle.theory.specs.Free.{noGroup, MeetsFree}
+use Rattle.theory.specs.Level.{Level}
 use Rattle.theory.specs.Whole.{equation, MeetsRow, Whole, Same, AgreeOff, AgreeBetween, Fills}
 use Rattle.theory.proofs.Ring as R
 use Rattle.theory.proofs.Powers.{moment-ext}
@@ -22,7 +23,7 @@ use Rattle.theory.proofs.Settled.{settled-zero}
 use Rattle.theory.proofs.Levels.{reached}
 
 module _ (c : Code) where
-  open Code c using (field as F, point)
+  open Code c using (field as F, s, m, point)
 
   pub whole-fewer : (k r : ℕ) (C : Stripe c) → k ≤ r → Whole c r C → Whole c k C
   whole-fewer k r C le w a al t l = w a al t (omega arith)
@@ -35,6 +36,13 @@ module _ (c : Code) where
   pub free→meets : (k : ℕ) (C : Stripe c) (a : ℕ) → MeetsFree c k noGroup C a → MeetsRow c k C a
   unfolding equation
   free→meets k C a w t l = moment-ext F (nodes c) point _ _ t (λ i il. sym (weight-bound c noGroup C a i refl)) ∙ w t l
+
+  -- at the last level every row meets its equations
+  pub level-whole : (k : ℕ) (L : ℕ → Bool) (B E : Stripe c) → Level c k noGroup L B (suc m) E → Fills c k L B E
+  level-whole k L B E level = record {
+    whole = λ a al. free→meets k E a (level .meets a al (omega (arith, score-le s m noGroup L a)));
+    kept = λ i a il al out. sym (level .kept i a il al out);
+  }
 
 module _ (c : Code) (h : Lawful c) where
   open Code c using (field as F, s, m)
@@ -64,14 +72,7 @@ module _ (c : Code) (h : Lawful c) where
 
   -- for a set of exactly r nodes and any survivors there is a whole stripe with these survivors
   pub filling-exists : (r : ℕ) (L : ℕ → Bool) (C : Stripe c) → count (nodes c) L ≡ r → (D : Stripe c) × Fills c r L C D
-  filling-exists r L C exact =
-      let (D, level) = reached c h r noGroup L exact C in (
-        D,
-        record {
-          whole = λ a al. free→meets c r D a (level .meets a al (omega (arith, score-le s m noGroup L a)));
-          kept = λ i a il al out. sym (level .kept i a il al out);
-        },
-      )
+  filling-exists r L C exact = let (D, level) = reached c h r noGroup L exact C in (D, level-whole c r L C D level)
 
   -- L lies in L′ of exactly r nodes, and D fills L′
   module _ (r : ℕ) (L L′ : ℕ → Bool) (inside : Inside L L′) (exact : count (nodes c) L′ ≡ r) (C D : Stripe c) (fill : Fills c r L′ C D) where

@@ -1,6 +1,6 @@
--- Filling level by level. In order: the symbols of lost nodes from their weights; one level more; all levels. A row's equations speak, of lost symbols,
--- only of rows whose score is not higher. So storing the symbols of the rows of score n leaves the rows below as they were, and at these rows gives
--- the lost nodes the weights that were solved for.
+-- Filling level by level. In order: the first level, and a level with no rows; the symbols of lost nodes from their weights; one level more; all levels. A
+-- row's equations speak, of lost symbols, only of rows whose score is not higher. So storing the symbols of the rows of score n leaves the rows below as they
+-- were, and at these rows gives the lost nodes the weights that were solved for.
 use mathlib.Core.Path.{_≡_, refl, sym, ap, ap₂, _∙_}
 use mathlib.Core.Bool.{Bool, true, false, not, cond, _&&_, and-false}
 use mathlib.Core.Logic.{_⊎_, inl, inr}
@@ -20,6 +20,7 @@ use Rattle.theory.specs.Pair.{factor, unpaired}
 use Rattle.theory.specs.Score.{score}
 use Rattle.theory.specs.Free.{weightFree, MeetsFree}
 use Rattle.theory.specs.Level.{Level, Stepped, symbolOff, symbolOf, symbolFrom}
+use Rattle.theory.specs.Whole.{AgreeOff}
 use Rattle.theory.proofs.Ring as R
 use Rattle.theory.proofs.Ring.{ring}
 use Rattle.theory.proofs.Counts.{one-if-le}
@@ -29,6 +30,21 @@ use Rattle.theory.proofs.Mates.{on-digit, mate-flips, mate-off, mate-gr
 use Rattle.theory.proofs.Scores.{score-mate}
 use Rattle.theory.proofs.Weights.{weight-free, weight-bound, weight-own, weight-split, factor-not-zero, pair-reached}
 use Rattle.theory.proofs.Linearity.{weight-ext}
+
+module _ (c : Code) where
+  open Code c using (s, m)
+
+  -- the first level asks for the kept symbols alone
+  pub level-start : {free : ℕ → Bool} (k : ℕ) (L : ℕ → Bool) (B E : Stripe c) → AgreeOff c L E B → Level c k free L B 0 E
+  level-start k L B E agree = record { kept = agree; meets = λ a al low. absurd (omega arith) }
+
+  -- with no row of score n nothing is to be settled
+  pub level-empty : {free : ℕ → Bool} (k : ℕ) (L : ℕ → Bool) (B : Stripe c) (n : ℕ) (E : Stripe c) → Level c k free L B n E
+      → ((a : ℕ) → a < rows c → score s m free L a ≡ n → ⊥) → Level c k free L B (suc n) E
+  level-empty {free} k L B n E level none = record {
+    kept = level .kept;
+    meets = λ a al low. let other : (score s m free L a ≡ n → ⊥) = none a al in level .meets a al (omega arith);
+  }
 
 module _ (c : Code) (free L : ℕ → Bool) (E : Stripe c) (x : ℕ → ℕ → c .field .K) where
   open Code c using (field as F, s)
@@ -202,7 +218,7 @@ module _ (c : Code) (h : Lawful c) (k : ℕ) (free L : ℕ → Bool) (exact : co
   }
 
   levels : (n : ℕ) → (E : Stripe c) × Level c k free L B n E
-  levels zero = (B, record { kept = λ i a il al out. refl; meets = λ a al low. absurd (omega arith) })
+  levels zero = (B, level-start c k L B B (λ i a il al out. refl))
   levels (suc n) = let (E, level) = levels n in (next n E, level-step c h k free L B n E (λ a. found E a .0) (next n E) level (next-step n E))
 
   -- a stripe with any symbols outside a set of exactly k nodes, whose rows all meet k equations

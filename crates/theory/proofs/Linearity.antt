@@ -7,6 +7,7 @@ use Rattle.theory.specs.Field.{Field}
 use Rattle.theory.specs.Code.{Code, Stripe, nodes, plus, scaled}
 use Rattle.theory.specs.Power.{moment}
 use Rattle.theory.specs.Weight.{weighed, weight, side, mateNode, mateRow}
+use Rattle.theory.specs.Pair.{unpaired}
 use Rattle.theory.specs.Share.{spread, shared, share}
 use Rattle.theory.specs.Whole.{equation, MeetsRow, Whole, Fills}
 use Rattle.theory.proofs.Ring.{ring}
@@ -29,6 +30,11 @@ module _ (c : Code) where
   weighed-scaled Ordering·lt z x y = simp ring
   weighed-scaled Ordering·eq z x y = refl
   weighed-scaled Ordering·gt z x y = simp ring
+
+  -- and back from the weights
+  pub unpaired-add : (o : Ordering) (w w′ u u′ : K) → unpaired c o (w ⊕ u) (w′ ⊕ u′) ≡ unpaired c o w w′ ⊕ unpaired c o u u′
+  unfolding unpaired
+  unpaired-add o w w′ u u′ = simp ring
 
   -- a weight depends on two symbols alone
   pub weight-ext : (C D : Stripe c) (a i : ℕ) → C i a ≡ D i a → C (mateNode s a i) (mateRow s a i) ≡ D (mateNode s a i) (mateRow s a i)

@@ -1,6 +1,6 @@
 -- Laws of powers and of the sums of powers times unknowns. In order: clauses of powers, a power of a sum of exponents; moments: extensionality,
--- of sums and of multiples, one point taken out of all; moments over a set.
-use mathlib.Core.Path.{_≡_, refl, ap, _∙_}
+-- of sums, of multiples and of combinations, one point taken out of all; moments over a set.
+use mathlib.Core.Path.{_≡_, refl, sym, ap, _∙_}
 use mathlib.Core.Bool.{Bool, true, false, not}
 use Prim.Native.Nat.{ℕ, zero, suc, _+_, _*_, _<_}
 use native.Mathlib.Nat.{add-zero, add-suc, mul-zero, mul-suc}
@@ -10,7 +10,7 @@ use Rattle.theory.specs.Sum.{sum}
 use Rattle.theory.specs.Power.{power, moment, momentOver}
 use Rattle.theory.specs.Set.{Lists}
 use Rattle.theory.proofs.Ring.{ring}
-use Rattle.theory.proofs.Sums.{sum-zero, sum-suc, sum-ext, sum-none, sum-add, sum-scale, sum-over-split, sum-over-ext, sum-over-zero, sum-over-list}
+use Rattle.theory.proofs.Sums.{sum-zero, sum-suc, sum-ext, sum-none, sum-add, sum-scale, sum-swap, sum-over-split, sum-over-ext, sum-over-add, sum-over-zero, sum-over-list}
 
 module _ (F : Field) where
   open Field F using (K, zero as 𝟘, one as 𝟙, add as _⊕_, mul as _⊗_)
@@ -75,6 +75,15 @@ module _ (F : Field) where
   unfolding moment
   moment-scale n p z x t = sum-ext F n _ _ (λ i l. simp ring) ∙ sum-scale F n z (λ i. power F (p i) t ⊗ x i)
 
+  -- unknowns that are combinations of k others
+  pub moment-sum : (n k : ℕ) (p : ℕ → K) (x : ℕ → ℕ → K) (b : ℕ → K) (t : ℕ)
+      → moment F n p (λ i. sum F k (λ u. x u i ⊗ b u)) t ≡ sum F k (λ u. b u ⊗ moment F n p (x u) t)
+  unfolding moment
+  moment-sum n k p x b t =
+      sum-ext F n _ _ (λ i l. sym (sum-scale F k (power F (p i) t) (λ u. x u i ⊗ b u)))
+      ∙ sum-swap F n k (λ i u. power F (p i) t ⊗ (x u i ⊗ b u))
+      ∙ sum-ext F k _ _ (λ u l. sum-ext F n _ _ (λ i il. simp ring) ∙ sum-scale F n (b u) (λ i. power F (p i) t ⊗ x u i))
+
   -- the step of Vandermonde: unknowns times the difference of their points from q
   pub moment-shift : (n : ℕ) (p : ℕ → K) (q : K) (x : ℕ → K) (t : ℕ)
       → moment F n p (λ i. (p i ⊕ q) ⊗ x i) t ≡ moment F n p x (suc t) ⊕ q ⊗ moment F n p x t
@@ -93,6 +102,11 @@ module _ (F : Field) where
       → momentOver F n L p x t ≡ momentOver F n L p y t
   unfolding momentOver
   moment-over-ext n L p x y t h = sum-over-ext F n L _ _ (λ i l e. ap (λ w. power F (p i) t ⊗ w) (h i l e))
+
+  pub moment-over-add : (n : ℕ) (L : ℕ → Bool) (p x y : ℕ → K) (t : ℕ) → momentOver F n L p (λ i. x i ⊕ y i) t ≡ momentOver F n L p x t ⊕ momentOver F n L p y t
+  unfolding momentOver
+  moment-over-add n L p x y t =
+      sum-over-ext F n L _ _ (λ i l e. F .mul-add _ _ _) ∙ sum-over-add F n L (λ i. power F (p i) t ⊗ x i) (λ i. power F (p i) t ⊗ y i)
 
   pub moment-over-zero : (n : ℕ) (L : ℕ → Bool) (p x : ℕ → K) (t : ℕ) → ((i : ℕ) → i < n → L i ≡ true → x i ≡ 𝟘) → momentOver F n L p x t ≡ 𝟘
   unfolding momentOver

@@ -81,6 +81,9 @@ module _ (F : Field) where
   pub factor-zero : {x y : K} → (x ≡ 𝟘 → ⊥) → x ⊗ y ≡ 𝟘 → y ≡ 𝟘
   factor-zero {x} {y} h e = sym (mul-inverse-left x y h) ∙ ap (λ w. inverse x ⊗ w) e ∙ mul-zero (inverse x)
 
+  pub mul-not-zero : {x y : K} → (x ≡ 𝟘 → ⊥) → (y ≡ 𝟘 → ⊥) → x ⊗ y ≡ 𝟘 → ⊥
+  mul-not-zero h k e = k (factor-zero h e)
+
   pub add-twice : (x y : K) → x ⊕ y ⊕ y ≡ x
   add-twice x y = simp ring
 

@@ -78,6 +78,14 @@ module _ (F : Field) where
       one true x y e = e refl
       one false x y e = refl
 
+  pub sum-over-add : (n : ℕ) (L : ℕ → Bool) (f g : ℕ → K) → sumOver F n L (λ i. f i ⊕ g i) ≡ sumOver F n L f ⊕ sumOver F n L g
+  unfolding sumOver
+  sum-over-add n L f g = sum-ext n _ _ (λ i l. one (L i) (f i) (g i)) ∙ sum-add n _ _
+    where
+      one : (b : Bool) (x y : K) → cond b (x ⊕ y) 𝟘 ≡ cond b x 𝟘 ⊕ cond b y 𝟘
+      one true x y = refl
+      one false x y = simp ring
+
   pub sum-over-zero : (n : ℕ) (L : ℕ → Bool) (f : ℕ → K) → ((i : ℕ) → i < n → L i ≡ true → f i ≡ 𝟘) → sumOver F n L f ≡ 𝟘
   unfolding sumOver
   sum-over-zero n L f h = sum-none n _ (λ i l. one (L i) (f i) (h i l))

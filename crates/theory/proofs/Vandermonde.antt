@@ -1,6 +1,7 @@
--- Vandermonde on any set of places: k equations settle the unknowns on at most k places, and on exactly k places every right-hand sides are
--- reached. The points are only known to differ: 0 may be among them. Both go by induction on the number of places, with a split on whether
--- the last is in the set: multiplying each unknown by the difference of its point from the last one's takes the last unknown out.
+-- Vandermonde on any set of places: k equations settle the unknowns on at most k places, and on exactly k places every right-hand sides are reached. The
+-- points are only known to differ: 0 may be among them. Both go by induction on the number of places, with a split on whether the last is in the set:
+-- multiplying each unknown by the difference of its point from the last one's takes the last unknown out. In order: at most one; at least one; square
+-- systems, and one solved for the units.
 use mathlib.Core.Path.{_≡_, refl, sym, ap, ap₂, _∙_}
 use mathlib.Core.Bool.{Bool, true, false, true≢false}
 use Prim.Native.Nat.{ℕ, zero, suc, _<_, _≤_}
@@ -15,11 +16,11 @@ use Rattle.theory.specs.Power.{power, moment}
 use Rattle.theory.proofs.Ring as R
 use Rattle.theory.proofs.Ring.{ring}
 use Rattle.theory.proofs.Counts.{count-zero, count-suc, count-le, count-all, changed-same, changed-other, changed-case}
-use Rattle.theory.proofs.Sums.{sum-suc, sum-ext}
-use Rattle.theory.proofs.Powers.{power-zero, moment-first, moment-suc, moment-short, moment-ext, moment-zero, moment-add, moment-shift}
+use Rattle.theory.proofs.Sums.{sum-suc, sum-ext, sum-one}
+use Rattle.theory.proofs.Powers.{power-zero, moment-first, moment-suc, moment-short, moment-ext, moment-zero, moment-add, moment-sum, moment-shift}
 
 module _ (F : Field) (p : ℕ → F .K) where
-  open Field F using (K, zero as 𝟘, add as _⊕_, mul as _⊗_, inverse)
+  open Field F using (K, zero as 𝟘, one as 𝟙, add as _⊕_, mul as _⊗_, inverse)
 
   infixl 60 _⊕_
   infixl 70 _⊗_
@@ -183,3 +184,15 @@ module _ (F : Field) (p : ℕ → F .K) where
   pub square-reached : (n : ℕ) (b : ℕ → K) → Distinct F p n → (x : ℕ → K) × ((t : ℕ) → t < n → moment F n p x t ≡ b t)
   unfolding all-in
   square-reached n b d = let (x, h) = vandermonde-reached n n all-in b d (count-all n all-in (λ i l. refl)) in (x, h .sums)
+
+  -- a square system solved for the units is solved for all right-hand sides: x u solves the u-th unit
+  pub units-solve : (k : ℕ) (unit : ℕ → ℕ → K)
+      → ((u : ℕ) → u < k → unit u u ≡ 𝟙)
+      → ((u t : ℕ) → u < k → t < k → (u ≡ t → ⊥) → unit u t ≡ 𝟘)
+      → (x : ℕ → ℕ → K) → ((u t : ℕ) → u < k → t < k → moment F k p (x u) t ≡ unit u t)
+      → (b : ℕ → K) (t : ℕ) → t < k → moment F k p (λ j. sum F k (λ u. x u j ⊗ b u)) t ≡ b t
+  units-solve k unit own other x solves b t l =
+      moment-sum F k k p x b t
+      ∙ sum-one F k t _ l (λ u ul ne. ap (λ w. b u ⊗ w) (solves u t ul l ∙ other u t ul l ne) ∙ R.mul-zero F _)
+      ∙ ap (λ w. b t ⊗ w) (solves t t l l ∙ own t l)
+      ∙ F .mul-one _

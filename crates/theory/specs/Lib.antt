@@ -5,6 +5,7 @@
 --   Digit   == digits of a row, a row with one digit set; place and group of a node
 --   Set     == a set of nodes and its count, and a list of its nodes
 --   System  == systems of equations in powers of points
+--   Newton  == elimination without pivots
 --   Code    == the parameters, and what is assumed of them
 --   Weight  == the weight of a node at a row; the mate
 --   Pair    == a node and its mate: the two symbols from the two weights
@@ -13,6 +14,7 @@
 --   Free    == free groups and good rows: filling and rebuilding as one
 --   Level   == filling level by level
 --   Whole   == a row meets its equations, a stripe is whole, a stripe fills another
+--   Correction == filling by corrections
 --   Read    == the rows read for a failed node, and what a rebuilt column must meet
 pub mod Field
 pub mod Sum
@@ -20,6 +22,7 @@ pub mod Power
 pub mod Digit
 pub mod Set
 pub mod System
+pub mod Newton
 pub mod Code
 pub mod Weight
 pub mod Pair
@@ -28,4 +31,5 @@ pub mod Score
 pub mod Free
 pub mod Level
 pub mod Whole
+pub mod Correction
 pub mod Read
