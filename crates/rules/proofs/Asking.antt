@@ -1,25 +1,21 @@
 -- What an equation of a row read asks for: of the failed node f its whole column, of every other node the rows read alone. Document 01, "Fractions and
--- rebuilding": "No other byte of a helper is lent to it". In order: sums of equal terms; the symbols that a weight takes; the equations.
-use mathlib.Core.Path.{_≡_, refl, ap, ap₂}
+-- rebuilding": "No other byte of a helper is lent to it". In order: the symbols that a weight takes; the equations.
+use mathlib.Core.Path.{_≡_, ap, ap₂}
 use mathlib.Core.Bool.{true}
-use Prim.Native.Nat.{ℕ, zero, suc, _*_, _≤_, compare}
+use Prim.Native.Nat.{ℕ, suc, _*_, _≤_, compare}
 use native.Mathlib.Decide.{ℕ-discrete}
 use borrow.Author.Tests.{eqb-true}
-use Rattle.field.specs.Number.{add, mul, power}
+use Rattle.field.specs.Number.{mul, power}
 use Rattle.rules.specs.declared.shapes.Shape.{Shape}
 use Rattle.rules.specs.Shape.{groupSize, groups, node, group, place, digit, withDigit}
 use Rattle.rules.specs.Point.{pointOf}
 use Rattle.rules.specs.Stripe.{Symbols}
-use Rattle.rules.specs.Equation.{weighed, weight, sumBelow, sumTo, equation}
+use Rattle.rules.specs.Equation.{weighed, weight, sumTo, equation}
 use Rattle.rules.specs.Fraction.{isRead}
 use Rattle.rules.proofs.Accepted.{Bounds}
 use Rattle.rules.proofs.RowsRead.{place-lt, group-from-1}
+use Rattle.rules.proofs.Ties.{sum-same}
 use Rattle.rules.proofs.Layouts.{node-of, digit-set-kept}
-
-sum-same : (n : ℕ) (f g : ℕ → ℕ) → ((i : ℕ) → f i ≡ g i) → sumBelow n f ≡ sumBelow n g
-unfolding sumBelow
-sum-same zero f g h = refl
-sum-same (suc n) f g h = ap₂ add (sum-same n f g h) (h n)
 
 module _ (sh : Shape) (b : Bounds sh) (f : ℕ) (first : 1 ≤ f) (C D : Symbols)
     (own : (a : ℕ) → C f a ≡ D f a) (lent : (i a : ℕ) → isRead sh f a ≡ true → C i a ≡ D i a) where
@@ -44,4 +40,4 @@ module _ (sh : Shape) (b : Bounds sh) (f : ℕ) (first : 1 ≤ f) (C D : Symbols
 
   pub read-asks : (a t : ℕ) → isRead sh f a ≡ true → equation sh C a t ≡ equation sh D a t
   unfolding equation sumTo
-  read-asks a t read = sum-same (groups sh * groupSize sh) _ _ (λ j. ap (mul (power (pointOf sh (suc j)) t)) (weight-same a (suc j) read))
+  read-asks a t read = sum-same (groups sh * groupSize sh) _ _ (λ j l. ap (mul (power (pointOf sh (suc j)) t)) (weight-same a (suc j) read))

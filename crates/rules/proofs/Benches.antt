@@ -1,5 +1,6 @@
--- The bench stripes of document 01: every case of the table at once, by one computed test. In order: tests that a computation decides, each with
--- what it shows; the test of a case, and that a case that passes it holds; the table; the shape of A to D and H to J; C and J by name; the phantom's weight.
+-- The bench stripes of document 01: every case of the table at once, by one computed test; that an answer is the only one follows from `parity-only` and
+-- `rebuilt-only`. In order: tests that a computation decides, each with what it shows; the test of a case, and that a case that passes it holds; the
+-- table; the shape of A to D and H to J; cases by name; the phantom's weight.
 --   each f l           == every number of the list l passes f
 --   listed a l         == a is one of the list l
 --   eqList x y         == the lists x and y are equal
@@ -9,6 +10,8 @@
 --   lower sh C rs a    == of the rows rs, those below a meet their equations
 --   lowest sh C rs a t == of the rows rs, a is the lowest that fails, and t the lowest in it
 --   areBytes n list    == the list is n bytes
+--   accepts sh         == the shape is accepted
+--   isNode sh f        == f is 1 to n
 --   check c            == the test of case c
 --   checkAll cs        == every case of cs passes its test
 use mathlib.Core.Path.{_≡_, refl, ap, ap₂}
@@ -16,8 +19,8 @@ use mathlib.Core.Bool.{Bool, true, false, not, _&&_, _||_}
 use mathlib.Core.List.{List, [], _∷_, _++_}
 use mathlib.Core.Logic.{_⊎_, inl, inr}
 use mathlib.Core.Option.{Option, none, some}
-use Prim.Native.Nat.{ℕ, _-_, _*_, _<_}
-use lib.Dec.{T, T-not, eqb, ltb, eqb→eq, eqb-refl, ltb→lt, lt→ltb}
+use Prim.Native.Nat.{ℕ, _-_, _*_, _<_, _≤_}
+use lib.Dec.{T, T-not, leb, eqb, ltb, leb→le, eqb→eq, eqb-refl, ltb→lt, lt→ltb}
 use lib.ListN.{length, getD}
 use lib.Ieee.Fits.{and-l, and-r}
 use Rattle.field.specs.Number.{modulus, add, double, byBits, mul, power}
@@ -28,9 +31,11 @@ use Rattle.rules.specs.Shape.{groupSize, dataNodes, groups, rows, accept
 use Rattle.rules.specs.Point.{pointOf, γ}
 use Rattle.rules.specs.Stripe.{Symbols, IsBytes, stripeLength, dataLength, symbol, column, columnStart}
 use Rattle.rules.specs.Equation.{weighed, weight, sumBelow, sumTo, equation, MeetsRow, Whole, LowestFailure, allRows}
-use Rattle.rules.specs.Fraction.{isRead, rowsRead, fractionLength, fraction, helperBefore, fractionOf, arrived}
+use Rattle.rules.specs.Fraction.{isRead, rowsRead, fractionLength, fraction, helperBefore, fractionOf, arrived, MeetsRead}
 use Rattle.rules.specs.Refusal.{shapeRefusal}
-use Rattle.rules.proofs.Accepted.{five}
+use Rattle.rules.proofs.Accepted.{Bounds, bounds, five}
+use Rattle.rules.proofs.Fillings.{parity-only}
+use Rattle.rules.proofs.Rebuildings.{rebuilt-only}
 use Rattle.rules.specs.Bench.{Case, parity-is, fraction-is, product-is, rows-are, refused-with, rebuilt-is, fails-at}
 use Rattle.rules.specs.Bench.{Claim, AllHold, shape, stripeC, stripeJ, table}
 
@@ -132,15 +137,28 @@ areBytes-sound n list t = record {
     small : Bool
     small = all (λ k. ltb (getD list k 0) 256) n
 
+abbrev accepts : Shape → Bool
+accepts sh = eqRefusal (shapeRefusal sh) none
+
+accepts-sound : (sh : Shape) → T (accepts sh) → Bounds sh
+accepts-sound sh t = bounds sh (eqRefusal-sound (shapeRefusal sh) none t)
+
+abbrev isNode : Shape → ℕ → Bool
+isNode sh f = leb 1 f && leb f (sh .n)
+
+isNode-sound : (sh : Shape) (f : ℕ) → T (isNode sh f) → (1 ≤ f) × (f ≤ sh .n)
+isNode-sound sh f t = (leb→le 1 f (and-l (leb 1 f) (leb f (sh .n)) t), leb→le f (sh .n) (and-r (leb 1 f) (leb f (sh .n)) t))
+
 abbrev check : Case → Bool
 check (parity-is sh kept parity) =
-    areBytes (dataLength sh) kept && areBytes (stripeLength sh) (kept ++ parity) && all (meets sh (symbol sh (kept ++ parity))) (rows sh)
+    accepts sh && (areBytes (dataLength sh) kept && areBytes (stripeLength sh) (kept ++ parity) && all (meets sh (symbol sh (kept ++ parity))) (rows sh))
 check (fraction-is sh stripe h f given) = eqList (fraction sh f (column sh stripe h)) given
 check (product-is a b c) = eqb (mul a b) c
-check (rows-are sh l) = eqRefusal (shapeRefusal sh) none && eqb (rows sh) l
+check (rows-are sh l) = accepts sh && eqb (rows sh) l
 check (refused-with sh q) = eqRefusal (shapeRefusal sh) (some q)
 check (rebuilt-is sh f fractions col) =
-    areBytes ((sh .n - 1) * fractionLength sh) fractions && areBytes (rows sh) col && each (meets sh (arrived sh f fractions col)) (rowsRead sh f)
+    accepts sh && isNode sh f
+    && (areBytes ((sh .n - 1) * fractionLength sh) fractions && areBytes (rows sh) col && each (meets sh (arrived sh f fractions col)) (rowsRead sh f))
 check (fails-at sh stripe a t) = areBytes (stripeLength sh) stripe && lowest sh (symbol sh stripe) (allRows sh) a t
 
 -- two and three tests in one
@@ -150,30 +168,54 @@ both a b f g t = (f (and-l a b t), g (and-r a b t))
 three : {P Q R : Type 0} (a b c : Bool) → (T a → P) → (T b → Q) → (T c → R) → T (a && b && c) → P × Q × R
 three a b c f g h t = (f (and-l a b (and-l (a && b) c t)), g (and-r a b (and-l (a && b) c t)), h (and-r (a && b) c t))
 
-check-sound : (c : Case) → T (check c) → Claim c
-check-sound (parity-is sh kept parity) t =
-    three (areBytes (dataLength sh) kept) (areBytes (stripeLength sh) (kept ++ parity)) (all (meets sh C) (rows sh))
-    (areBytes-sound (dataLength sh) kept)
-    (areBytes-sound (stripeLength sh) (kept ++ parity))
-    (λ h a l. meets-sound sh C a (all-at (meets sh C) (rows sh) h a l))
-    t
+-- the answer passes its tests, and it is the only one
+parity-sound : (sh : Shape) (kept parity : List ℕ) → T (check (parity-is sh kept parity)) → Claim (parity-is sh kept parity)
+parity-sound sh kept parity t = (parts .0, parts .1, parts .2, only)
   where
-    C : Symbols
-    C = symbol sh (kept ++ parity)
+    rest : Bool
+    rest = areBytes (dataLength sh) kept && areBytes (stripeLength sh) (kept ++ parity) && all (meets sh (symbol sh (kept ++ parity))) (rows sh)
+
+    parts : IsBytes (dataLength sh) kept × IsBytes (stripeLength sh) (kept ++ parity) × Whole sh (kept ++ parity)
+    parts =
+        three (areBytes (dataLength sh) kept) (areBytes (stripeLength sh) (kept ++ parity)) (all (meets sh (symbol sh (kept ++ parity))) (rows sh))
+        (areBytes-sound (dataLength sh) kept)
+        (areBytes-sound (stripeLength sh) (kept ++ parity))
+        (λ h a l. meets-sound sh (symbol sh (kept ++ parity)) a (all-at (meets sh (symbol sh (kept ++ parity))) (rows sh) h a l))
+        (and-r (accepts sh) rest t)
+
+    only : (other : List ℕ) → IsBytes (stripeLength sh) (kept ++ other) → Whole sh (kept ++ other) → other ≡ parity
+    only other bytes whole =
+        parity-only sh (accepts-sound sh (and-l (accepts sh) rest t)) kept (parts .0 .exact) other parity bytes (parts .1) whole (parts .2)
+
+rebuilt-sound : (sh : Shape) (f : ℕ) (fractions col : List ℕ) → T (check (rebuilt-is sh f fractions col)) → Claim (rebuilt-is sh f fractions col)
+rebuilt-sound sh f fractions col t = (parts .0, parts .1, parts .2, only)
+  where
+    rest : Bool
+    rest =
+        areBytes ((sh .n - 1) * fractionLength sh) fractions && areBytes (rows sh) col && each (meets sh (arrived sh f fractions col)) (rowsRead sh f)
+
+    parts : IsBytes ((sh .n - 1) * fractionLength sh) fractions × IsBytes (rows sh) col × MeetsRead sh f fractions col
+    parts =
+        three (areBytes ((sh .n - 1) * fractionLength sh) fractions) (areBytes (rows sh) col) (each (meets sh (arrived sh f fractions col)) (rowsRead sh f))
+        (areBytes-sound ((sh .n - 1) * fractionLength sh) fractions)
+        (areBytes-sound (rows sh) col)
+        (λ h a m. meets-sound sh (arrived sh f fractions col) a (each-at (meets sh (arrived sh f fractions col)) (rowsRead sh f) h a m))
+        (and-r (accepts sh && isNode sh f) rest t)
+
+    here : Bounds sh × ((1 ≤ f) × (f ≤ sh .n))
+    here = both (accepts sh) (isNode sh f) (accepts-sound sh) (isNode-sound sh f) (and-l (accepts sh && isNode sh f) rest t)
+
+    only : (other : List ℕ) → IsBytes (rows sh) other → MeetsRead sh f fractions other → other ≡ col
+    only other bytes meets = rebuilt-only sh (here .0) f (here .1 .0) (here .1 .1) fractions other col bytes (parts .1) meets (parts .2)
+
+check-sound : (c : Case) → T (check c) → Claim c
+check-sound (parity-is sh kept parity) t = parity-sound sh kept parity t
 check-sound (fraction-is sh stripe i f given) t = eqList-sound (fraction sh f (column sh stripe i)) given t
 check-sound (product-is a b c) t = eqb→eq (mul a b) c t
 check-sound (rows-are sh l) t =
-    both (eqRefusal (shapeRefusal sh) none) (eqb (rows sh) l) (eqRefusal-sound (shapeRefusal sh) none) (eqb→eq (rows sh) l) t
+    both (accepts sh) (eqb (rows sh) l) (eqRefusal-sound (shapeRefusal sh) none) (eqb→eq (rows sh) l) t
 check-sound (refused-with sh q) t = eqRefusal-sound (shapeRefusal sh) (some q) t
-check-sound (rebuilt-is sh f fractions col) t =
-    three (areBytes ((sh .n - 1) * fractionLength sh) fractions) (areBytes (rows sh) col) (each (meets sh C) (rowsRead sh f))
-    (areBytes-sound ((sh .n - 1) * fractionLength sh) fractions)
-    (areBytes-sound (rows sh) col)
-    (λ h a m. meets-sound sh C a (each-at (meets sh C) (rowsRead sh f) h a m))
-    t
-  where
-    C : Symbols
-    C = arrived sh f fractions col
+check-sound (rebuilt-is sh f fractions col) t = rebuilt-sound sh f fractions col t
 check-sound (fails-at sh stripe a t) h =
     both (areBytes (stripeLength sh) stripe) (lowest sh (symbol sh stripe) (allRows sh) a t)
     (areBytes-sound (stripeLength sh) stripe)
@@ -202,8 +244,24 @@ pub bench-shape : (shapeRefusal (shape 3 2) ≡ none) × (rows (shape 3 2) ≡ 4
 unfolding shapeRefusal accepted rows groups groupSize dataNodes
 bench-shape = (refl, refl, refl)
 
+-- A, B, C, H and I: the answer, and that there is no other
+pub parity-A : Claim (parity-is (shape 3 2) (4 ∷ 0 ∷ 0 ∷ 0 ∷ []) (6 ∷ 5 ∷ 0 ∷ 0 ∷ 2 ∷ 3 ∷ 0 ∷ 0 ∷ []))
+parity-A = bench .0
+
+pub parity-B : Claim (parity-is (shape 3 2) (0 ∷ 0 ∷ 0 ∷ 12 ∷ []) (0 ∷ 10 ∷ 12 ∷ 30 ∷ 0 ∷ 15 ∷ 0 ∷ 5 ∷ []))
+parity-B = bench .1 .0
+
+pub parity-C : Claim (parity-is (shape 3 2) (4 ∷ 0 ∷ 0 ∷ 12 ∷ []) (6 ∷ 15 ∷ 12 ∷ 30 ∷ 2 ∷ 12 ∷ 0 ∷ 5 ∷ []))
+parity-C = bench .1 .1 .0
+
+pub rebuilt-H : Claim (rebuilt-is (shape 3 2) 1 (6 ∷ 12 ∷ 2 ∷ 0 ∷ []) (4 ∷ 0 ∷ 0 ∷ 12 ∷ []))
+rebuilt-H = bench .1 .1 .1 .1 .1 .1 .1 .1 .1 .0
+
+pub rebuilt-I : Claim (rebuilt-is (shape 3 2) 3 (4 ∷ 0 ∷ 6 ∷ 15 ∷ []) (2 ∷ 12 ∷ 0 ∷ 5 ∷ []))
+rebuilt-I = bench .1 .1 .1 .1 .1 .1 .1 .1 .1 .1 .0
+
 pub whole-C : Whole (shape 3 2) stripeC
-whole-C = bench .1 .1 .0 .2
+whole-C = parity-C .2
 
 pub fails-J : LowestFailure (shape 3 2) (symbol (shape 3 2) stripeJ) (allRows (shape 3 2)) 1 0
 fails-J = bench .1 .1 .1 .1 .1 .1 .1 .1 .1 .1 .1 .0 .1

@@ -125,7 +125,7 @@ module _ (sh : Shape) (b : Bounds sh) where
       most = omega (arith, lt-of-mul-lt-mul-right (groupSize sh) {m = groups sh} {n = sh .n / groupSize sh + 1} (omega (arith, whole, phantoms-few sh b)))
 
 -- the byte that a real node has at row a
-symbol-byte : (sh : Shape) (stripe : List ℕ) (i a : ℕ) → i ≤ sh .n → symbol sh stripe i a ≡ getD stripe (columnStart sh i + a) 0
+pub symbol-byte : (sh : Shape) (stripe : List ℕ) (i a : ℕ) → i ≤ sh .n → symbol sh stripe i a ≡ getD stripe (columnStart sh i + a) 0
 unfolding symbol phantom
 symbol-byte sh stripe i a h = rw (le-ltb (sh .n) i h)
 

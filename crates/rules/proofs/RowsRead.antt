@@ -118,7 +118,7 @@ abbrev blocks : Shape → ℕ → ℕ
 blocks sh f = groupSize sh ^ (groups sh - group sh f)
 
 -- neither default is read
-getD-map : (f : ℕ → ℕ) (l : List ℕ) (j d e : ℕ) → j < length l → getD (map f l) j d ≡ f (getD l j e)
+pub getD-map : (f : ℕ → ℕ) (l : List ℕ) (j d e : ℕ) → j < length l → getD (map f l) j d ≡ f (getD l j e)
 getD-map f [] j d e h = absurd (not-suc-le-zero h)
 getD-map f (x ∷ l) zero d e h = refl
 getD-map f (x ∷ l) (suc j) d e h = getD-map f l j d e (le-of-suc-le-suc h)

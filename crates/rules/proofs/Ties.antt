@@ -14,7 +14,7 @@ use lib.Dec.{eqb}
 use lib.ListN.{getD}
 use lib.Count.{ones-step, ones-le}
 use lib.Arith.{le-zero}
-use borrow.Author.Tests.{lt-ltb, eqb-true, eq-eqb}
+use borrow.Author.Tests.{lt-ltb, eqb-true, eq-eqb, ne-eqb}
 use Rattle.theory.specs.Digit as digits
 use Rattle.theory.specs.Power as powers
 use Rattle.theory.specs.Read as reads
@@ -25,7 +25,7 @@ use Rattle.theory.specs.Whole as wholes
 use Rattle.theory.proofs.Counts.{changed-case, count-zero, count-suc, count-split, count-ext}
 use Rattle.theory.proofs.Digits.{digit-lt, digit-set-same, digit-closed, set-closed, group-node, place-node}
 use Rattle.theory.proofs.Sums.{sum-ext}
-use Rattle.field.specs.Number.{mul}
+use Rattle.field.specs.Number.{add, mul}
 use Rattle.field.proofs.Xor.{add-below}
 use Rattle.field.proofs.Product.{mul-below}
 use Rattle.field.proofs.Numbers.{numbers, number, number-zero, number-add, number-mul, number-power, number-injective}
@@ -36,7 +36,7 @@ use Rattle.rules.specs.Stripe.{Symbols, symbol}
 use Rattle.rules.specs.Equation.{weighed, weight, sumBelow, sumTo, equation, MeetsRow, Whole}
 use Rattle.rules.specs.Fraction.{isRead, rowsRead, arrived, MeetsRead}
 use Rattle.rules.specs.Lost.{isLost, lostCount}
-use Rattle.rules.specs.Rising.{rising, Listed}
+use Rattle.rules.specs.Rising.{Listed}
 use Rattle.rules.proofs.Accepted.{Bounds, size-some}
 use Rattle.rules.proofs.Risings.{rising→listed, listed→rising}
 use Rattle.rules.proofs.House.{code, stripe}
@@ -103,6 +103,12 @@ unfolding sumBelow sums.sum
 sum-tie zero f = number-zero
 sum-tie (suc n) f = number-add (sumBelow n f) (f n) ∙ ap (λ x. numbers .add x (number (f n))) (sum-tie n f)
 
+-- sums of equal terms
+pub sum-same : (n : ℕ) (f g : ℕ → ℕ) → ((i : ℕ) → i < n → f i ≡ g i) → sumBelow n f ≡ sumBelow n g
+unfolding sumBelow
+sum-same zero f g h = refl
+sum-same (suc n) f g h = ap₂ add (sum-same n f g (λ i l. h i (omega arith))) (h n (omega arith))
+
 pub sum-below : (n : ℕ) (f : ℕ → ℕ) → ((i : ℕ) → i < n → f i < 256) → sumBelow n f < 256
 unfolding sumBelow
 sum-below zero f h = omega arith
@@ -154,9 +160,14 @@ pub listed-read : (sh : Shape) (f a : ℕ) → Listed a (rowsRead sh f) ↔ ((a 
 unfolding rowsRead
 listed-read sh f a = (listed→rising (rows sh) (isRead sh f) a, λ h. rising→listed (rows sh) (isRead sh f) a (h .0) (h .1))
 
-arrived-own : (sh : Shape) (f : ℕ) (fractions col : List ℕ) (a : ℕ) → arrived sh f fractions col f a ≡ getD col a 0
+pub arrived-own : (sh : Shape) (f : ℕ) (fractions col : List ℕ) (a : ℕ) → arrived sh f fractions col f a ≡ getD col a 0
 unfolding arrived
 arrived-own sh f fractions col a = rw (eq-eqb f f refl)
+
+-- the symbols of the other nodes don't depend on the column
+pub arrived-other : (sh : Shape) (f : ℕ) (fractions x y : List ℕ) (i a : ℕ) → (i ≡ f → ⊥) → arrived sh f fractions x i a ≡ arrived sh f fractions y i a
+unfolding arrived
+arrived-other sh f fractions x y i a ne = rw (ne-eqb i f ne)
 
 -- the column that is asked of stands among the symbols known already
 arrived-changed : (sh : Shape) (f : ℕ) (fractions col : List ℕ)
@@ -184,7 +195,7 @@ bit-one zero h = refl
 bit-one (suc zero) h = refl
 bit-one (suc (suc d)) h = absurd (omega arith)
 
-is-lost-suc : (lost i : ℕ) → isLost lost (suc i) ≡ eqb (lost / 2 ^ i % 2) 1
+pub is-lost-suc : (lost i : ℕ) → isLost lost (suc i) ≡ eqb (lost / 2 ^ i % 2) 1
 unfolding isLost
 is-lost-suc lost i = rw less-one
 

@@ -1,6 +1,6 @@
 -- The bench stripes of document 01 that are marked P, in one table. A to D and H to J have n = 3, r = 2, l = 4.
 --   Case       == a case of the table, by what is given and what is answered
---   Claim case == what the case says, in the rules' own words
+--   Claim case == what the case says, in the rules' own words; of parity columns and of a rebuilt column also that no other bytes will do
 --   AllHold t  == the claim of each case of the table t
 --   shape n r  == the shape with n nodes and r parity nodes
 --   stripeC    == bench stripe C: data and both parity columns
@@ -35,13 +35,16 @@ pub data Case : Type 0 where
   fails-at : Shape → List ℕ → ℕ → ℕ → Case
 
 abbrev pub Claim : Case → Type 0
-Claim (parity-is sh kept parity) = IsBytes (dataLength sh) kept × IsBytes (stripeLength sh) (kept ++ parity) × Whole sh (kept ++ parity)
+Claim (parity-is sh kept parity) =
+    IsBytes (dataLength sh) kept × IsBytes (stripeLength sh) (kept ++ parity) × Whole sh (kept ++ parity)
+    × ((other : List ℕ) → IsBytes (stripeLength sh) (kept ++ other) → Whole sh (kept ++ other) → other ≡ parity)
 Claim (fraction-is sh stripe h f given) = fraction sh f (column sh stripe h) ≡ given
 Claim (product-is a b c) = mul a b ≡ c
 Claim (rows-are sh l) = (shapeRefusal sh ≡ none) × (rows sh ≡ l)
 Claim (refused-with sh q) = shapeRefusal sh ≡ some q
 Claim (rebuilt-is sh f fractions col) =
     IsBytes ((sh .n - 1) * fractionLength sh) fractions × IsBytes (rows sh) col × MeetsRead sh f fractions col
+    × ((other : List ℕ) → IsBytes (rows sh) other → MeetsRead sh f fractions other → other ≡ col)
 Claim (fails-at sh stripe a t) = IsBytes (stripeLength sh) stripe × LowestFailure sh (symbol sh stripe) (allRows sh) a t
 
 abbrev pub AllHold : List Case → Type 0

@@ -5,8 +5,8 @@
 --   Rising   == a list of the numbers that pass a test
 --   Equation == weights, the equations, whole, the lowest failure
 --   Fraction == rows read, fractions, what a rebuilt column meets
---   Lost     == the lost set
---   Refusal  == the first refusal that applies; refusal 1 (2 and 3 are in crate `yebarg`, by entry; 9 in crate `field`)
+--   Lost     == the lost set, and what a filled stripe is
+--   Refusal  == the first refusal that applies; refusal 1 (the others stand by entry in crates `yebarg`, `sums`, `rebuild` and `fill`; 9 in crate `field`)
 --   Paper    == the equations of Ye and Barg as they print them
 --   Bench    == the bench stripes of document 01 that are proved
 --   Promise  == what each public function of this crate promises

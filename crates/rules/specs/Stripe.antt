@@ -8,13 +8,16 @@
 --   symbol sh stripe i a == the symbol of node i at row a: 0 where i is a phantom, else the byte of column i at row a
 --   laid sh rec stripe   == the record in the data columns in order, zero bytes after it, and the parity columns as they were
 --   readBack sh stripe   == the record read back: the stripe's first k × l bytes
+--   plusBytes x y        == the sum of two buffers of one length, byte by byte, in the field
+--   timesBytes c x       == a buffer times the number c, byte by byte, in the field
 -- A definition here takes any list of numbers, and reads 0 past its end: that a list is a stripe's bytes is said by `IsBytes (stripeLength sh)`. The
 -- entries are lent bytes, and test each length.
 use mathlib.Core.Path.{_≡_}
 use mathlib.Core.Bool.{cond}
-use mathlib.Core.List.{List, _++_}
+use mathlib.Core.List.{List, _++_, map, zipWith}
 use Prim.Native.Nat.{ℕ, _+_, _-_, _*_, _<_}
 use lib.ListN.{length, getD, take, drop, replicate}
+use Rattle.field.specs.Number.{add, mul}
 use Rattle.rules.specs.declared.shapes.Shape.{Shape}
 use Rattle.rules.specs.Shape.{dataNodes, rows, phantom}
 
@@ -45,3 +48,9 @@ laid sh rec stripe = rec ++ replicate (dataLength sh - length rec) 0 ++ drop (da
 
 unfoldable pub readBack : Shape → List ℕ → List ℕ
 readBack sh stripe = take (dataLength sh) stripe
+
+unfoldable pub plusBytes : List ℕ → List ℕ → List ℕ
+plusBytes x y = zipWith add x y
+
+unfoldable pub timesBytes : ℕ → List ℕ → List ℕ
+timesBytes c x = map (mul c) x

@@ -1,7 +1,7 @@
 -- `rules::raised` meets its contract: after j steps l is s to the power j, which is at most 4 to the power 8.
 -- Assumes nothing.
 use mathlib.Core.Path.{_≡_, sym, ap, _∙_}
-use Prim.Native.Nat.{ℕ, suc, _≤_, _+_, _-_, _*_, _^_}
+use Prim.Native.Nat.{ℕ, _≤_, _+_, _-_, _*_, _^_}
 use native.Mathlib.Nat.{pow-zero, pow-suc, pow-le-pow-left, pow-le-pow-right, le-trans}
 use native.Mathlib.Omega.{arith}
 use borrow.Author.Needs.{needs}

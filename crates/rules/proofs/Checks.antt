@@ -1,0 +1,37 @@
+-- What `firstOf` answers: document 01, "the first that applies is given, and none is given otherwise". In order: a list that gives none; a list that gives a
+-- number.
+--   NoneApplies checks == no check of the list applies
+--   FirstIs checks q == some check of the list applies and has the number q, and none that stands before it applies
+use mathlib.Core.Path.{_≡_, refl}
+use mathlib.Core.Bool.{Bool, true, false, cond}
+use mathlib.Core.List.{List, [], _∷_}
+use mathlib.Core.Logic.{_⊎_, inl, inr}
+use mathlib.Core.Option.{none, some, Option·none-ne-some, Option·some-ne-none}
+use Prim.Native.Nat.{ℕ}
+use Rattle.rules.specs.Refusal.{Check, firstOf}
+
+abbrev pub NoneApplies : List Check → Type 0
+NoneApplies [] = Unit {0}
+NoneApplies (check ∷ rest) = (check .applies ≡ false) × NoneApplies rest
+
+pub none-given : (checks : List Check) → firstOf checks ≡ none → NoneApplies checks
+none-given [] e = tt
+none-given (check ∷ rest) e = go (check .applies) refl e (none-given rest)
+  where
+    go : (c : Bool) → check .applies ≡ c → cond c (some (check .number)) (firstOf rest) ≡ none → (firstOf rest ≡ none → NoneApplies rest)
+        → (check .applies ≡ false) × NoneApplies rest
+    go true a e ih = absurd (Option·some-ne-none (check .number) e)
+    go false a e ih = (a, ih e)
+
+abbrev pub FirstIs : List Check → ℕ → Type 0
+FirstIs [] q = ⊥
+FirstIs (check ∷ rest) q = ((check .applies ≡ true) × (check .number ≡ q)) ⊎ ((check .applies ≡ false) × FirstIs rest q)
+
+pub first-given : (checks : List Check) (q : ℕ) → firstOf checks ≡ some q → FirstIs checks q
+first-given [] q e = absurd (Option·none-ne-some q e)
+first-given (check ∷ rest) q e = go (check .applies) refl e (first-given rest q)
+  where
+    go : (c : Bool) → check .applies ≡ c → cond c (some (check .number)) (firstOf rest) ≡ some q → (firstOf rest ≡ some q → FirstIs rest q)
+        → ((check .applies ≡ true) × (check .number ≡ q)) ⊎ ((check .applies ≡ false) × FirstIs rest q)
+    go true a e ih = inl (a, cc)
+    go false a e ih = inr (a, ih e)
