@@ -1,5 +1,5 @@
 -- From what the tests of an entry find to the refusal that it gives, and to what it then owes to the buffer that it may write. In order:
--- node numbers; `test`, `lay`, `read_back`, `cut`; a buffer that is written or kept.
+-- node numbers; `lay`, `read_back`, `cut`; a buffer that is written or kept.
 use mathlib.Core.Path.{_≡_, refl, sym, _∙_}
 use mathlib.Core.Bool.{Bool, true, false, cond, not}
 use mathlib.Core.List.{List, [], _∷_}
@@ -14,7 +14,7 @@ use Rattle.rules.specs.Stripe.{stripeLength, dataLength}
 use Rattle.rules.specs.Fraction.{fractionLength}
 use Rattle.rules.specs.Refusal.{firstOf, _given-when_, shapeRefusal}
 use Rattle.rules.proofs.Accepted.{is-accepted, is-refused}
-use Rattle.yebarg.specs.Refusal.{notNode, layRefusal, readBackRefusal, testRefusal, cutRefusal}
+use Rattle.yebarg.specs.Refusal.{notNode, layRefusal, readBackRefusal, cutRefusal}
 use Rattle.yebarg.specs.Promise.{Writes}
 
 pub not-node-low : (sh : Shape) (i : ℕ) → i < 1 → notNode sh i ≡ true
@@ -28,19 +28,6 @@ not-node-high sh i h k = simp (le-ltb i 1 h, lt-ltb (sh .n) i k)
 pub a-node : (sh : Shape) (i : ℕ) → 1 ≤ i → i ≤ sh .n → notNode sh i ≡ false
 unfolding notNode
 a-node sh i h k = simp (le-ltb i 1 h, le-ltb (sh .n) i k)
-
-module _ (sh : Shape) (stripe : List ℕ) where
-  pub test-shape : shapeRefusal sh ≡ some 1 → testRefusal sh stripe ≡ some 1
-  unfolding testRefusal
-  test-shape h = simp (is-refused sh 1 h .0)
-
-  pub test-length : shapeRefusal sh ≡ none → (length stripe ≡ stripeLength sh → ⊥) → testRefusal sh stripe ≡ some 2
-  unfolding testRefusal
-  test-length h k = simp (is-accepted sh h, ne-eqb (length stripe) (stripeLength sh) k)
-
-  pub test-accepted : shapeRefusal sh ≡ none → length stripe ≡ stripeLength sh → testRefusal sh stripe ≡ none
-  unfolding testRefusal
-  test-accepted h k = simp (is-accepted sh h, eq-eqb (length stripe) (stripeLength sh) k)
 
 module _ (sh : Shape) (rec stripe : List ℕ) where
   pub lay-shape : shapeRefusal sh ≡ some 1 → layRefusal sh rec stripe ≡ some 1

@@ -1,10 +1,8 @@
 -- What each entry promises settles its answer and every byte that it leaves: two results that one promise allows are equal. And for each, wrong answers
--- that the promise rules out, at the bench stripes. In order: answers and buffers; `lay`, `read_back`, `cut`; `test`, and when
--- it answers what.
+-- that the promise rules out, at the bench stripes. In order: answers and buffers; `lay`, `read_back`, `cut`.
 --   MeetsD answer later == bench D: what `cut` promises of node 2 of C, which helps node 1
-use mathlib.Core.Path.{_≡_, refl, sym, ap, ap₂, _∙_, subst}
+use mathlib.Core.Path.{_≡_, refl, sym, ap, _∙_}
 use mathlib.Core.List.{List, [], _∷_}
-use mathlib.Core.Logic.{_↔_}
 use mathlib.Core.Option.{Option, none, some, Option·none-ne-some, Option·some-ne-none}
 use Prim.Native.Nat.{ℕ}
 use native.Mathlib.Omega.{arith}
@@ -12,21 +10,14 @@ use lib.ListN.{getD}
 use Rattle.rules.specs.declared.shapes.Shape.{Shape}
 use Rattle.rules.specs.Rising.{rising}
 use Rattle.rules.specs.Shape.{groupSize, dataNodes, groups, rows, accepted, group, place, worth, digit}
-use Rattle.rules.specs.Stripe.{symbol, stripeLength, dataLength, laid, readBack}
-use Rattle.rules.specs.Equation.{LowestFailure, allRows}
-use Rattle.rules.specs.Equation as rules
+use Rattle.rules.specs.Stripe.{stripeLength, dataLength, laid, readBack}
 use Rattle.rules.specs.Fraction.{isRead, rowsRead, fractionLength, fraction}
-use Rattle.rules.specs.Bench.{shape, stripeC, stripeJ}
-use Rattle.rules.proofs.Benches.{whole-C, fails-J}
-use Rattle.rules.proofs.Weighing.{lowest-only, whole-or-fails}
+use Rattle.rules.specs.Bench.{shape, stripeC}
 use Rattle.yebarg.specs.declared.answers.Outcome.{Outcome}
 use Rattle.yebarg.specs.declared.answers.Outcome.the-variants.{Done, Refused}
-use Rattle.yebarg.specs.declared.answers.Failure.{Failure}
-use Rattle.yebarg.specs.declared.answers.Tested.{Tested}
-use Rattle.yebarg.specs.declared.answers.Tested.the-variants as tests
-use Rattle.yebarg.specs.Answer.{refusal, refusalOfTest, FoundIs}
-use Rattle.yebarg.specs.Refusal.{notNode, layRefusal, readBackRefusal, testRefusal, cutRefusal}
-use Rattle.yebarg.specs.Promise.{Writes, LayMeets, ReadBackMeets, TestMeets, CutMeets}
+use Rattle.yebarg.specs.Answer.{refusal}
+use Rattle.yebarg.specs.Refusal.{notNode, layRefusal, readBackRefusal, cutRefusal}
+use Rattle.yebarg.specs.Promise.{Writes, LayMeets, ReadBackMeets, CutMeets}
 
 pub writes-settled : (refused : Option ℕ) (wanted before x y : List ℕ) → Writes refused wanted before x → Writes refused wanted before y → x ≡ y
 writes-settled none wanted before x y p q = p .written refl ∙ sym (q .written refl)
@@ -151,54 +142,3 @@ cut-order later p = let h = p .answered in let e : _≡_ {A = ℕ} 3 2 = cc in o
 pub cut-refused-writes : CutMeets (shape 3 2) 1 1 (4 ∷ 0 ∷ 0 ∷ 12 ∷ []) (0 ∷ 0 ∷ []) (Refused 3) (4 ∷ 0 ∷ []) → ⊥
 unfolding cutRefusal notNode accepted rows groups groupSize fractionLength
 cut-refused-writes p = let e : _≡_ {A = ℕ} 4 0 = ap (λ (l : List ℕ). getD l 0 0) (p .buffer-later .kept 3 refl) in omega arith
-
-pub test-settled : (sh : Shape) (stripe : List ℕ) (x y : Tested) → TestMeets sh stripe x → TestMeets sh stripe y → x ≡ y
-test-settled sh stripe x y p q = go x y (p .found) (q .found) (p .answered ∙ sym (q .answered))
-  where
-    go : (x y : Tested) → FoundIs sh stripe x → FoundIs sh stripe y → refusalOfTest x ≡ refusalOfTest y → x ≡ y
-    go tests.Whole tests.Whole f g e = refl
-    go tests.Whole (tests.Fails b) f g e = absurd (whole-or-fails sh stripe (b .row) (b .t) f g)
-    go tests.Whole (tests.Refused k) f g e = absurd (Option·none-ne-some k e)
-    go (tests.Fails a) tests.Whole f g e = absurd (whole-or-fails sh stripe (a .row) (a .t) g f)
-    go (tests.Fails a) (tests.Fails b) f g e =
-        let o = lowest-only sh (symbol sh stripe) (allRows sh) (a .row) (a .t) (b .row) (b .t) f g in
-        ap₂ (λ (r t : ℕ). tests.Fails (record { row = r; t = t })) (o .0) (o .1)
-    go (tests.Fails a) (tests.Refused k) f g e = absurd (Option·none-ne-some k e)
-    go (tests.Refused j) tests.Whole f g e = absurd (Option·some-ne-none j e)
-    go (tests.Refused j) (tests.Fails b) f g e = absurd (Option·some-ne-none j e)
-    go (tests.Refused j) (tests.Refused k) f g e = ap tests.Refused (cc)
-
-module _ (sh : Shape) (stripe : List ℕ) (x : Tested) (taken : testRefusal sh stripe ≡ none) (p : TestMeets sh stripe x) where
-  -- of what is not refused, the answer is `Whole` exactly where the stripe is whole
-  pub test-whole-exactly : (x ≡ tests.Whole) ↔ rules.Whole sh stripe
-  test-whole-exactly =
-      (λ h. subst (FoundIs sh stripe) h (p .found), λ h. test-settled sh stripe x tests.Whole p (record { answered = sym taken; found = h }))
-
-  -- and `Fails f` exactly where f is its lowest failure
-  pub test-fails-exactly : (f : Failure) → (x ≡ tests.Fails f) ↔ LowestFailure sh (symbol sh stripe) (allRows sh) (f .row) (f .t)
-  test-fails-exactly f =
-      (λ h. subst (FoundIs sh stripe) h (p .found), λ h. test-settled sh stripe x (tests.Fails f) p (record { answered = sym taken; found = h }))
-
-pub test-refuses : (q : ℕ) → TestMeets (shape 3 2) stripeC (tests.Refused q) → ⊥
-unfolding testRefusal accepted rows groups groupSize stripeLength
-test-refuses q p = Option·some-ne-none q (p .answered)
-
-pub test-says-whole : TestMeets (shape 3 2) stripeJ tests.Whole → ⊥
-test-says-whole p = whole-or-fails (shape 3 2) stripeJ 1 0 (p .found) fails-J
-
-pub test-wrong-row : TestMeets (shape 3 2) stripeJ (tests.Fails (record { row = 2; t = 0 })) → ⊥
-test-wrong-row p =
-    let e : _≡_ {A = ℕ} 2 1 = lowest-only (shape 3 2) (symbol (shape 3 2) stripeJ) (allRows (shape 3 2)) 2 0 1 0 (p .found) fails-J .0 in
-    omega arith
-
-pub test-wrong-t : TestMeets (shape 3 2) stripeJ (tests.Fails (record { row = 1; t = 1 })) → ⊥
-test-wrong-t p =
-    let e : _≡_ {A = ℕ} 1 0 = lowest-only (shape 3 2) (symbol (shape 3 2) stripeJ) (allRows (shape 3 2)) 1 1 1 0 (p .found) fails-J .1 in
-    omega arith
-
-pub test-fails-whole : TestMeets (shape 3 2) stripeC (tests.Fails (record { row = 0; t = 0 })) → ⊥
-test-fails-whole p = whole-or-fails (shape 3 2) stripeC 0 0 whole-C (p .found)
-
-pub test-order : TestMeets (shape 16 3) stripeC (tests.Refused 2) → ⊥
-unfolding testRefusal accepted rows groups groupSize
-test-order p = let h = p .answered in let e : _≡_ {A = ℕ} 2 1 = cc in omega arith

@@ -1,28 +1,10 @@
--- The answers, in document 01's numbers and values.
---   refusal answer       == the refusal's number, or none where the answer is no refusal
---   refusalOfTest answer == the same of a test's answer
---   FoundIs sh stripe answer == what a test's answer says of the stripe
-use mathlib.Core.List.{List}
+-- The answers, in document 01's numbers.
+--   refusal answer == the refusal's number, or none where the answer is no refusal
 use mathlib.Core.Option.{Option, none, some}
 use Prim.Native.Nat.{ℕ}
-use Rattle.rules.specs.declared.shapes.Shape.{Shape}
-use Rattle.rules.specs.Stripe.{symbol}
-use Rattle.rules.specs.Equation as rules
 use Rattle.yebarg.specs.declared.answers.Outcome.{Outcome}
 use Rattle.yebarg.specs.declared.answers.Outcome.the-variants as outcome
-use Rattle.yebarg.specs.declared.answers.Tested.{Tested}
-use Rattle.yebarg.specs.declared.answers.Tested.the-variants as tests
 
 abbrev pub refusal : Outcome → Option ℕ
 refusal outcome.Done = none
 refusal (outcome.Refused q) = some q
-
-abbrev pub refusalOfTest : Tested → Option ℕ
-refusalOfTest tests.Whole = none
-refusalOfTest (tests.Fails f) = none
-refusalOfTest (tests.Refused q) = some q
-
-abbrev pub FoundIs : Shape → List ℕ → Tested → Type 0
-FoundIs sh stripe tests.Whole = rules.Whole sh stripe
-FoundIs sh stripe (tests.Fails f) = rules.LowestFailure sh (symbol sh stripe) (rules.allRows sh) (f .row) (f .t)
-FoundIs sh stripe (tests.Refused q) = Unit {0}

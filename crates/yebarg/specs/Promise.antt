@@ -4,7 +4,6 @@
 --                    what it held before
 --   LayMeets      == `lay`
 --   ReadBackMeets == `read_back`
---   TestMeets     == `test`
 --   CutMeets      == `cut`
 use mathlib.Core.Path.{_≡_}
 use mathlib.Core.List.{List}
@@ -14,9 +13,8 @@ use Rattle.rules.specs.declared.shapes.Shape.{Shape}
 use Rattle.rules.specs.Stripe.{laid, readBack}
 use Rattle.rules.specs.Fraction.{fraction}
 use Rattle.yebarg.specs.declared.answers.Outcome.{Outcome}
-use Rattle.yebarg.specs.declared.answers.Tested.{Tested}
-use Rattle.yebarg.specs.Answer.{refusal, refusalOfTest, FoundIs}
-use Rattle.yebarg.specs.Refusal.{layRefusal, readBackRefusal, testRefusal, cutRefusal}
+use Rattle.yebarg.specs.Answer.{refusal}
+use Rattle.yebarg.specs.Refusal.{layRefusal, readBackRefusal, cutRefusal}
 
 pub record Writes (refused : Option ℕ) (wanted before later : List ℕ) : Type 0 where
   pub written : refused ≡ none → later ≡ wanted
@@ -29,10 +27,6 @@ pub record LayMeets (sh : Shape) (rec stripe : List ℕ) (answer : Outcome) (lat
 pub record ReadBackMeets (sh : Shape) (stripe buffer : List ℕ) (answer : Outcome) (later : List ℕ) : Type 0 where
   pub answered : refusal answer ≡ readBackRefusal sh stripe buffer
   pub buffer-later : Writes (readBackRefusal sh stripe buffer) (readBack sh stripe) buffer later
-
-pub record TestMeets (sh : Shape) (stripe : List ℕ) (answer : Tested) : Type 0 where
-  pub answered : refusalOfTest answer ≡ testRefusal sh stripe
-  pub found : FoundIs sh stripe answer
 
 pub record CutMeets (sh : Shape) (helper failed : ℕ) (col buffer : List ℕ) (answer : Outcome) (later : List ℕ) : Type 0 where
   pub answered : refusal answer ≡ cutRefusal sh helper failed col buffer

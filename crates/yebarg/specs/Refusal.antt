@@ -2,7 +2,6 @@
 --   notNode sh i    == i isn't 1 to n
 --   layRefusal      == of `lay`: shape; record longer than k × l; stripe
 --   readBackRefusal == of `read_back`: shape; stripe; buffer
---   testRefusal     == of `test`: shape; stripe
 --   cutRefusal      == of `cut`: shape; column; buffer; helper; failed node; the failed node's own fraction
 use mathlib.Core.Bool.{Bool, not, _||_}
 use mathlib.Core.List.{List, [], _∷_}
@@ -33,13 +32,6 @@ readBackRefusal sh stripe buffer =
     (1 given-when not (accepted sh)
     ∷ 2 given-when not (eqb (length stripe) (stripeLength sh))
     ∷ 2 given-when not (eqb (length buffer) (dataLength sh))
-    ∷ [])
-
-unfoldable pub testRefusal : Shape → List ℕ → Option ℕ
-testRefusal sh stripe =
-    firstOf
-    (1 given-when not (accepted sh)
-    ∷ 2 given-when not (eqb (length stripe) (stripeLength sh))
     ∷ [])
 
 unfoldable pub cutRefusal : Shape → ℕ → ℕ → List ℕ → List ℕ → Option ℕ

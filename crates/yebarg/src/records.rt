@@ -1,12 +1,9 @@
 // A record, laid into the data columns of a stripe and read back: document 01, "Shape".
 use crate::answers::Outcome;
+use columns::clear;
 use rules::Measured;
 use rules::Shape;
 use rules::measure;
-ghost use mathlib.Core.Path.{_≡_};
-ghost use mathlib.Core.List.{_++_};
-ghost use Prim.Native.Nat.{_≤_, _-_};
-ghost use lib.ListN.{length, take, drop, replicate};
 ghost use Rattle.yebarg.specs.Promise.{LayMeets, ReadBackMeets};
 
 // Lays a record of 0 to k × l bytes into the data columns, zero bytes after it. The parity columns keep their bytes.
@@ -25,20 +22,8 @@ pub fn lay(shape: Shape, rec: &[u8], stripe: &mut [u8]) -> Outcome
     }
     // `copy` answers the record's length.
     let at = bytes::copy(rec, stripe);
-    clear(stripe, at, end);
+    clear(&mut stripe[at..end]);
     Outcome::Done
-}
-
-// Zero bytes from index `at` up to, not including, index `end`.
-fn clear(list: &mut [u8], at: usize, end: usize)
-    requires { ⌜ (at ≤ end) × (end ≤ length (now list)) ⌝ }
-    ensures { λ _. ⌜ now (list .exit) ≡ take at (now (list .entry)) ++ replicate (end - at) 0 ++ drop end (now (list .entry)) ⌝ }
-{
-    let mut i = at;
-    while i < end {
-        list[i] = 0;
-        i = i + 1;
-    }
 }
 
 // Reads the record of a stripe back: its first k × l bytes.

@@ -6,19 +6,21 @@ use mathlib.Core.List.{List, _++_}
 use mathlib.Core.Option.{some}
 use Prim.Native.Nat.{ℕ, _≤_, _-_, _*_}
 use native.Mathlib.Omega.{arith}
-use lib.ListN.{length, take, drop, replicate}
-use lib.Seq.{take-length}
+use lib.ListN.{length, take, drop, replicate, length-drop}
+use lib.Seq.{take-length, length-take-le}
 use borrow.Author.Needs.{needs}
+use borrow.Rule.Slice.PartMut.{putMid}
 use Rattle.rules.specs.declared.shapes.Shape.{Shape}
 use Rattle.rules.specs.Stripe.{stripeLength, dataLength, laid}
 use Rattle.rules.specs.Promise.{SizesAre}
 use Rattle.rules.proofs.Accepted.{bounds}
 use Rattle.rules.proofs.Measures.{measured-sizes, measured-refused}
+use Rattle.columns.specs.Promise.{Cleared}
 use Rattle.yebarg.specs.declared.answers.Outcome.the-variants.{Refused}
 use Rattle.yebarg.specs.Refusal.{layRefusal}
 use Rattle.yebarg.specs.Promise.{LayMeets}
 use Rattle.yebarg.proofs.Lengths.{stripe-is, data-is, stripe-most, data-most}
-use Rattle.yebarg.proofs.Lists.{laid-over}
+use Rattle.yebarg.proofs.Lists.{cleared-zeros, laid-over}
 use Rattle.yebarg.proofs.Refusals.{lay-shape, lay-long, lay-length, lay-accepted, refused-keeps, accepted-writes}
 use Rattle.yebarg.proofs.records.lay.Statement.{statement}
 use Rattle.yebarg.proofs.records.lay.Tie as tie
@@ -26,18 +28,24 @@ use Rattle.yebarg.proofs.records.lay.Tie as tie
 refused : {sh : Shape} {rec stripe : List ℕ} {q : ℕ} → layRefusal sh rec stripe ≡ some q → LayMeets sh rec stripe (Refused q) stripe
 refused {sh} {rec} {stripe} {q} e = record { answered = sym e; stripe-later = refused-keeps (laid sh rec stripe) stripe q e }
 
--- how the code comes to what is wanted: the record copied, then zeros
-laid-in-parts : (sh : Shape) (rec stripe : List ℕ) {copied later : List ℕ} {at end : ℕ} → at ≡ length rec → end ≡ dataLength sh → length rec ≤ dataLength sh
+-- how the code comes to what is wanted: the record copied, then the part after it cleared
+laid-in-parts : (sh : Shape) (rec stripe : List ℕ) {copied part : List ℕ} {at end : ℕ} → at ≡ length rec → end ≡ dataLength sh → length rec ≤ dataLength sh
     → copied ≡ take (length rec) rec ++ drop (length rec) stripe
-    → later ≡ take at copied ++ replicate (end - at) 0 ++ drop end copied
-    → later ≡ laid sh rec stripe
+    → dataLength sh ≤ length copied
+    → Cleared (take (end - at) (drop at copied)) part
+    → putMid at (end - at) copied part ≡ laid sh rec stripe
 unfolding laid
-laid-in-parts sh rec stripe {copied} {later} at-is end-is h copied-is later-is =
-    later-is
-    ∙ ap₂ (λ (a e : ℕ). take a copied ++ replicate (e - a) 0 ++ drop e copied) at-is end-is
-    ∙ ap (λ (l : List ℕ). take (length rec) l ++ replicate (dataLength sh - length rec) 0 ++ drop (dataLength sh) l)
+laid-in-parts sh rec stripe {copied} {part} {at} {end} at-is end-is h copied-is fits cleared =
+    ap (putMid at (end - at) copied) zeros
+    ∙ ap₂ (λ (a e : ℕ). putMid a (e - a) copied (replicate (e - a) 0)) at-is end-is
+    ∙ ap (λ (l : List ℕ). putMid (length rec) (dataLength sh - length rec) l (replicate (dataLength sh - length rec) 0))
     (copied-is ∙ ap (λ (l : List ℕ). l ++ drop (length rec) stripe) (take-length rec))
     ∙ laid-over rec stripe (dataLength sh) h
+  where
+    zeros : part ≡ replicate (end - at) 0
+    zeros =
+        cleared-zeros cleared
+        ∙ ap (λ k. replicate k 0) (length-take-le (end - at) (drop at copied) (omega (arith, length-drop at copied, end-is, fits)))
 
 abbrev start : tie.After-z → tie.Start
 start c = c .before .before .before .before .before
@@ -92,19 +100,26 @@ copy-requires c κs =
     let z = c .before .before .before .before .before .before in
     omega (arith, data-end z, stripe-end z, data-most (start z .args .shape), c .before .if2 .left, c .before .before .before .if1 .left)
 
+-- the data columns end within what is copied
+data-within : (c : tie.After-copy) → dataLength (start (c .before .before .before .before .before .before .before) .args .shape) ≤ length (c .copy .last .1 .0)
+data-within c =
+    let z = c .before .before .before .before .before .before .before in
+    omega (arith, stripe-end z, data-most (start z .args .shape), c .copy .kept .1 .0, c .before .before .if2 .left)
+
+sub-clear : tie.Need-sub-clear
+sub-clear c = search needs
+
+part-clear-start : tie.Need-part-clear-start
+part-clear-start c = search needs
+
+part-clear-end : tie.Need-part-clear-end
+part-clear-end c =
+    let copied = c .before .before in
+    let z = copied .before .before .before .before .before .before .before in
+    omega (arith, data-end z, data-within copied, copied .copy .ensures .0, copied .before .before .before .before .if1 .left)
+
 clear-requires : tie.Need-clear-requires
-clear-requires c κs =
-    let z = c .before .before .before .before .before .before .before .before .before .before in (
-      omega (arith, c .before .before .before .copy .ensures .0, c .before .before .before .before .before .before .before .if1 .left),
-      omega (
-        arith,
-        data-end z,
-        stripe-end z,
-        data-most (start z .args .shape),
-        c .before .before .before .copy .kept .1 .0,
-        c .before .before .before .before .before .if2 .left,
-      ),
-    )
+clear-requires c κs = search needs
 
 same-length : tie.Need-same-length
 same-length c = search needs
@@ -126,6 +141,7 @@ returns-4 c =
           (data-end z)
           short
           (copied .copy .ensures .1)
+          (data-within copied)
           (c .before .before .clear .ensures));
     }
 
@@ -142,6 +158,9 @@ lay-spec =
     mul-if2
     returns-3
     copy-requires
+    sub-clear
+    part-clear-start
+    part-clear-end
     clear-requires
     same-length
     returns-4)

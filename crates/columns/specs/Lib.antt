@@ -1,0 +1,3 @@
+-- What the functions over the bytes of columns promise.
+--   Promise == of each
+pub mod Promise
