@@ -1,0 +1,61 @@
+// The failed column from the sums of all helpers: at every row read as many unknowns as equations, the column's symbols at that row with the digit of the
+// failed node's group set to each place.
+use rules::Shape;
+use rules::Sizes;
+use rules::point;
+use rules::worth;
+use solver::unknowns;
+ghost use mathlib.Core.Path.{_≡_};
+ghost use Prim.Native.Nat.{_≤_, _<_, _*_, _%_};
+ghost use lib.ListN.{length};
+ghost use Rattle.rules.specs.Promise.{SizesAre};
+ghost use Rattle.rules.specs.Shape.{rows};
+ghost use Rattle.rules.specs.Fraction.{fractionLength};
+ghost use Rattle.rebuild.specs.Kernel.{PointsAre, Put, RowsSolved};
+
+// The points of the four nodes after the first `first`; 0 past node 16.
+fn points_after(shape: Shape, first: usize) -> [u8; 4]
+    requires { ⌜ first ≤ 16 ⌝ }
+    ensures { λ points. ⌜ PointsAre shape first points ⌝ }
+{
+    [
+        point(shape, first + 1),
+        point(shape, first + 2),
+        point(shape, first + 3),
+        point(shape, first + 4),
+    ]
+}
+
+// Puts what is found into the column: s columns of `size` bytes, that of place u for the rows with u as the digit that counts w, in rising row order.
+fn put_rows(found: &[u8], s: usize, w: usize, size: usize, column: &mut [u8])
+    requires { ⌜ (0 < w) × (0 < s) ⌝ }
+    requires { ⌜ (w * s ≤ 256) × (size % w ≡ 0) ⌝ }
+    requires { ⌜ (length (now found) ≡ s * size) × (length (now column) ≡ s * size) ⌝ }
+    requires { ⌜ s * size ≤ 256 ⌝ }
+    ensures { λ _. ⌜ Put s w size (now (found .entry)) (now (column .entry)) (now (column .exit)) ⌝ }
+{
+    let l = column.len();
+    let mut a = 0;
+    while a < l {
+        column[a] = found[a / w % s * size + (a / (w * s) * w + a % w)];
+        a = a + 1;
+    }
+}
+
+// Solves every row read, and writes the column.
+pub fn solve_rows(sums: &[u8], shape: Shape, failed: usize, z: Sizes, column: &mut [u8])
+    requires { ⌜ SizesAre shape z ⌝ }
+    requires { ⌜ (1 ≤ failed) × (failed ≤ shape .n) ⌝ }
+    requires { ⌜ (length (now sums) ≡ shape .r * fractionLength shape) × (length (now column) ≡ rows shape) ⌝ }
+    ensures { λ _. ⌜ RowsSolved shape failed (now (sums .entry)) (now (column .exit)) ⌝ }
+{
+    let s = z.s;
+    let size = z.l / s;
+    let end = s * size;
+    let v = (failed - 1) / s;
+    let points = points_after(shape, v * s);
+    let mut found = [0u8; 256];
+    // It can be solved: the group's points differ.
+    unknowns(s, points, size, sums, &mut found[..end]);
+    put_rows(&found[..end], s, worth(shape, v + 1), size, column);
+}
