@@ -1,0 +1,79 @@
+-- Laws of flags. In order: flags written to the end are those of a set; no flag from n on, and the count below n; both for a lost set and for parity.
+-- Assumes nothing.
+use mathlib.Core.Path.{_≡_, refl, ap, ap₂, _∙_}
+use mathlib.Core.List.{List}
+use mathlib.Core.Bool.{Bool, true, false, not, _&&_, and-false}
+use Prim.Native.Nat.{ℕ, suc, _+_, _/_, _%_, _^_, _≤_, _<_}
+use native.Mathlib.Nat.{div-eq-of-lt, pow-le-pow-right}
+use native.Mathlib.Omega.{arith}
+use lib.Dec.{leb, ltb, eqb}
+use lib.ListN.{length, List·getD-eq-default}
+use borrow.Author.Tests.{lt-ltb, le-ltb, le-leb, lt-leb, ltb-true, ltb-false}
+use Rattle.theory.specs.Set.{count}
+use Rattle.theory.proofs.Counts.{count-ext, count-none, count-all, count-split}
+use Rattle.rules.specs.Lost.{isLost, lostCount}
+use Rattle.rules.proofs.Ties.{is-lost-suc, lost-tie}
+use Rattle.rules.proofs.LostSets.{bits-below}
+use Rattle.columns.proofs.Kernels.{Stored, written-whole}
+use Rattle.levels.specs.Promise.{chosen, NoneFrom}
+use Rattle.fill.specs.Kernel.{FlagsAre, OthersAre}
+
+-- sixteen flags written
+module _ {i : ℕ} {before later : List Bool} (all : length before ≡ 16) (end : 16 ≤ i) where
+  pub flags-written : (L : ℕ → Bool) → Stored false (λ j. L (suc j)) i before later → FlagsAre L later
+  flags-written L written =
+      record { all = written .same-length ∙ all; each = λ j h. written-whole written (omega arith) j (omega arith) }
+
+  pub others-written : (flags : List Bool) → Stored false (λ j. not (chosen flags j)) i before later → OthersAre flags later
+  others-written flags written =
+      record { all = written .same-length ∙ all; each = λ j h. written-whole written (omega arith) j (omega arith) }
+
+module _ {L : ℕ → Bool} {flags : List Bool} (are : FlagsAre L flags) where
+  -- a node from 16 on has no flag
+  pub flags-beyond : (i : ℕ) → 16 ≤ i → chosen flags i ≡ false
+  flags-beyond i h = List·getD-eq-default flags false (omega (arith, are .all))
+
+  pub flags-none : (n : ℕ) → ((i : ℕ) → n ≤ i → L (suc i) ≡ false) → NoneFrom n flags
+  flags-none n none i h = go (ltb i 16) refl
+    where
+      go : (b : Bool) → ltb i 16 ≡ b → chosen flags i ≡ false
+      go true e = are .each i (ltb-true i 16 e) ∙ none i h
+      go false e = flags-beyond i (ltb-false i 16 e)
+
+  pub flags-count : (n : ℕ) → n ≤ 16 → count n (chosen flags) ≡ count n (λ i. L (suc i))
+  flags-count n h = count-ext n _ _ (λ i l. are .each i (omega arith))
+
+not-lost : (lost i : ℕ) → lost < 2 ^ i → isLost lost (suc i) ≡ false
+not-lost lost i h = is-lost-suc lost i ∙ ap (λ d. eqb (d % 2) 1) (div-eq-of-lt h)
+
+module _ (lost n : ℕ) {flags : List Bool} (are : FlagsAre (isLost lost) flags) (none : lost / 2 ^ n ≡ 0) where
+  pub lost-none : NoneFrom n flags
+  lost-none = flags-none are n (λ i h. not-lost lost i (omega (arith, bits-below n lost none, pow-le-pow-right {n = 2} (omega arith) h)))
+
+  pub lost-count : n ≤ 16 → count n (chosen flags) ≡ lostCount lost
+  lost-count h = flags-count are n h ∙ lost-tie n lost (bits-below n lost none)
+
+-- the nodes before parity, of parity, and after it
+pub before-parity : (k n i : ℕ) → i < k → (ltb k (suc i) && leb (suc i) n) ≡ false
+before-parity k n i h = ap (λ b. b && leb (suc i) n) (le-ltb k (suc i) h)
+
+of-parity : (k n i : ℕ) → k ≤ i → i < n → (ltb k (suc i) && leb (suc i) n) ≡ true
+of-parity k n i h l = ap₂ _&&_ (lt-ltb k (suc i) (omega arith)) (le-leb (suc i) n l)
+
+after-parity : (k n i : ℕ) → n ≤ i → (ltb k (suc i) && leb (suc i) n) ≡ false
+after-parity k n i h = ap (_&&_ (ltb k (suc i))) (lt-leb (suc i) n (omega arith)) ∙ and-false (ltb k (suc i))
+
+module _ (k n : ℕ) {flags : List Bool} (are : FlagsAre (λ i. ltb k i && leb i n) flags) where
+  pub parity-none : NoneFrom n flags
+  parity-none = flags-none are n (λ i h. after-parity k n i h)
+
+  pub parity-count : (r : ℕ) → n ≡ k + r → n ≤ 16 → count n (chosen flags) ≡ r
+  parity-count r e h =
+      flags-count are n h
+      ∙ ap (λ j. count j (λ i. ltb k (suc i) && leb (suc i) n)) e
+      ∙ count-split k r _
+      ∙ omega (
+        arith,
+        count-none k (λ i. ltb k (suc i) && leb (suc i) n) (λ i l. before-parity k n i l),
+        count-all r (λ i. ltb k (suc (k + i)) && leb (suc (k + i)) n) (λ i l. of-parity k n (k + i) (omega arith) (omega arith)),
+      )
