@@ -1,0 +1,1 @@
+-- No definition: the demands are said in the words of the other crates.
