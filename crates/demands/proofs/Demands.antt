@@ -16,7 +16,7 @@ use Rattle.rules.specs.declared.shapes.Shape.{Shape}
 use Rattle.rules.specs.Shape.{dataNodes, rows}
 use Rattle.rules.specs.Stripe.{IsBytes, stripeLength, dataLength, column, symbol, readBack, plusBytes, timesBytes}
 use Rattle.rules.specs.Equation.{Whole}
-use Rattle.rules.specs.Fraction.{fractionLength, fraction, endToEnd}
+use Rattle.rules.specs.Fraction.{fractionLength, endToEnd}
 use Rattle.rules.specs.Lost.{isLost, lostCount, bitAbove, isParity, Filled}
 use Rattle.rules.specs.Refusal.{Check, firstOf, shapeRefusal}
 use Rattle.rules.specs.Paper.{Matrices, Meets}

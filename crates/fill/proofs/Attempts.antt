@@ -24,7 +24,6 @@ use Rattle.rules.proofs.Accepted.{Bounds, nodes-least}
 use Rattle.rules.proofs.House.{code, stripe, house-lawful}
 use Rattle.rules.proofs.Ties.{symbol-phantom, whole-tie}
 use Rattle.rules.proofs.Stripes.{symbol-at}
-use Rattle.rules.proofs.LostSets.{real}
 use Rattle.rules.proofs.Fillings.{filled→fills, fills→filled}
 use Rattle.levels.specs.Promise.{chosen, NoneFrom, LevelsCorrected}
 use Rattle.levels.proofs.Nodes.{real-chosen}

@@ -32,8 +32,8 @@ pub fn place_columns(to: &mut [u8], found: &[u8], nodes: [usize; 4], count: usiz
     }
 }
 
-// What is added to the symbol of a lost node at place u, where the row's digit is d: `own` and `other` are what its weight and its mate's fall short by. γ
-// is 2; 142 is the inverse of γ, 244 that of γ + 1.
+// What is added to the symbol of a lost node at place u, where the row's digit is d: `own` and `other` are what its weight and its mate's fall short by, and
+// `paired` says whether its mate is lost too. γ is 2; 142 is the inverse of γ, 244 that of γ + 1.
 fn correction(u: usize, d: usize, paired: bool, own: u8, other: u8) -> u8
     ensures { λ x. ⌜ x ≡ correctionBy (compare u d) paired own other ⌝ }
 {

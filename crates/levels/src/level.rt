@@ -75,7 +75,7 @@ fn correct_levels(stripe: &mut [u8], shape: Shape, z: Sizes, flags: [bool; 16], 
 }
 
 // Fills the chosen columns by as many equations as there are of them, whatever they hold. False, and nothing written, where the shape isn't accepted, the
-// stripe hasn't n × l bytes, a node above n is chosen or more than r are.
+// stripe doesn't have n × l bytes, a node above n is chosen or more than r are.
 pub fn fill_levels(shape: Shape, flags: [bool; 16], stripe: &mut [u8]) -> bool
     ensures { λ answer. ⌜ LevelsAre shape flags (now (stripe .entry)) answer (now (stripe .exit)) ⌝ }
 {

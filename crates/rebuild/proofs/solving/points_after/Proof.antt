@@ -1,13 +1,11 @@
 -- `rebuild::points_after` meets its contract: the four numbers are what `point` answers.
 -- Assumes nothing.
-use mathlib.Core.Path.{_≡_, refl, ap, _∙_}
 use mathlib.Core.List.{[], _∷_}
 use Prim.Native.Nat.{ℕ, zero, suc, _+_, _<_}
 use native.Mathlib.Omega.{arith}
 use lib.ListN.{getD}
 use borrow.Author.Needs.{needs}
 use Rattle.rules.specs.declared.shapes.Shape.{Shape}
-use Rattle.rules.specs.Point.{pointOf}
 use Rattle.rules.specs.Promise.{PointIs}
 use Rattle.rebuild.proofs.solving.points_after.Statement.{statement}
 use Rattle.rebuild.proofs.solving.points_after.Tie as tie
