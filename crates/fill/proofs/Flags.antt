@@ -3,17 +3,17 @@
 use mathlib.Core.Path.{_≡_, refl, ap, ap₂, _∙_}
 use mathlib.Core.List.{List}
 use mathlib.Core.Bool.{Bool, true, false, not, _&&_, and-false}
-use Prim.Native.Nat.{ℕ, suc, _+_, _/_, _%_, _^_, _≤_, _<_}
-use native.Mathlib.Nat.{div-eq-of-lt, pow-le-pow-right}
+use Prim.Native.Nat.{ℕ, suc, _+_, _/_, _^_, _≤_, _<_}
+use native.Mathlib.Nat.{pow-le-pow-right}
 use native.Mathlib.Omega.{arith}
-use lib.Dec.{leb, ltb, eqb}
+use lib.Dec.{leb, ltb}
 use lib.ListN.{length, List·getD-eq-default}
 use borrow.Author.Tests.{lt-ltb, le-ltb, le-leb, lt-leb, ltb-true, ltb-false}
 use Rattle.theory.specs.Set.{count}
 use Rattle.theory.proofs.Counts.{count-ext, count-none, count-all, count-split}
 use Rattle.rules.specs.Lost.{isLost, lostCount}
-use Rattle.rules.proofs.Ties.{is-lost-suc, lost-tie}
-use Rattle.rules.proofs.LostSets.{bits-below}
+use Rattle.rules.proofs.Ties.{lost-tie}
+use Rattle.rules.proofs.LostSets.{bits-below, lost-beyond}
 use Rattle.columns.proofs.Kernels.{Stored, written-whole}
 use Rattle.levels.specs.Promise.{chosen, NoneFrom}
 use Rattle.fill.specs.Kernel.{FlagsAre, OthersAre}
@@ -43,12 +43,9 @@ module _ {L : ℕ → Bool} {flags : List Bool} (are : FlagsAre L flags) where
   pub flags-count : (n : ℕ) → n ≤ 16 → count n (chosen flags) ≡ count n (λ i. L (suc i))
   flags-count n h = count-ext n _ _ (λ i l. are .each i (omega arith))
 
-not-lost : (lost i : ℕ) → lost < 2 ^ i → isLost lost (suc i) ≡ false
-not-lost lost i h = is-lost-suc lost i ∙ ap (λ d. eqb (d % 2) 1) (div-eq-of-lt h)
-
 module _ (lost n : ℕ) {flags : List Bool} (are : FlagsAre (isLost lost) flags) (none : lost / 2 ^ n ≡ 0) where
   pub lost-none : NoneFrom n flags
-  lost-none = flags-none are n (λ i h. not-lost lost i (omega (arith, bits-below n lost none, pow-le-pow-right {n = 2} (omega arith) h)))
+  lost-none = flags-none are n (λ i h. lost-beyond i lost (omega (arith, bits-below n lost none, pow-le-pow-right {n = 2} (omega arith) h)))
 
   pub lost-count : n ≤ 16 → count n (chosen flags) ≡ lostCount lost
   lost-count h = flags-count are n h ∙ lost-tie n lost (bits-below n lost none)

@@ -1,6 +1,5 @@
 -- From what the tests of an entry find to the refusal that it gives, and what it owes then. In order: `fill`, `fill_parity`; a refusal that keeps the stripe.
 use mathlib.Core.Path.{_≡_, refl, sym, _∙_}
-use mathlib.Core.Bool.{false}
 use mathlib.Core.List.{List}
 use mathlib.Core.Option.{none, some, Option·none-ne-some, Option·some-ne-none, Option·some-injective}
 use Prim.Native.Nat.{ℕ, _/_, _^_, _<_}
@@ -32,10 +31,6 @@ module _ (sh : Shape) (lost : ℕ) (stripe : List ℕ) where
   unfolding fillRefusal bitAbove
   fill-many h k b m =
       simp (is-accepted sh h, eq-eqb (length stripe) (stripeLength sh) k, eq-eqb (lost / 2 ^ sh .n) 0 b, lt-ltb (sh .r) (lostCount lost) m)
-
-  pub no-bit-above : lost / 2 ^ sh .n ≡ 0 → bitAbove sh lost ≡ false
-  unfolding bitAbove
-  no-bit-above b = simp (eq-eqb (lost / 2 ^ sh .n) 0 b)
 
   pub fill-refused : {q : ℕ} → fillRefusal sh lost stripe ≡ some q → FillMeets sh lost stripe (Refused q) stripe
   fill-refused {q} e = record {

@@ -166,7 +166,7 @@ kept-3 : isLost 2 3 ≡ false
 unfolding isLost
 kept-3 = refl
 
-nothing-fills-K : (other : List ℕ) → Filled (shape 3 2) (isLost 2) stripeJ other → ⊥
+pub nothing-fills-K : (other : List ℕ) → Filled (shape 3 2) (isLost 2) stripeJ other → ⊥
 nothing-fills-K =
     filled-differs (shape 3 2) (bounds (shape 3 2) (bench-shape .0)) (isLost 2) (isLost 6) only-2 (fill-few (shape 3 2) 6 givenA taken-A)
     stripeJ stripeA (filled-A (isLost 6) lost-6 stripeJ column-J) 3 (omega arith) (omega arith) kept-3 differs-J

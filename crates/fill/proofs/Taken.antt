@@ -9,14 +9,14 @@ use Prim.Native.Nat.{ℕ, _≤_}
 use native.Mathlib.Omega.{arith}
 use lib.Dec.{eqb, ltb}
 use lib.ListN.{length}
-use borrow.Author.Tests.{ltb-false, eqb-true, le-ltb, eq-eqb, not-false}
+use borrow.Author.Tests.{ltb-false, le-ltb, eq-eqb}
 use Rattle.rules.specs.declared.shapes.Shape.{Shape}
 use Rattle.rules.specs.Shape.{accepted}
 use Rattle.rules.specs.Stripe.{stripeLength}
 use Rattle.rules.specs.Lost.{isLost, lostCount, bitAbove, Filled}
 use Rattle.rules.specs.Refusal.{_given-when_, shapeRefusal}
-use Rattle.rules.proofs.Accepted.{bounds, is-accepted}
-use Rattle.rules.proofs.Checks.{none-given}
+use Rattle.rules.proofs.Checks.{not-other, none-given}
+use Rattle.rules.proofs.Accepted.{bounds, is-accepted, not-refused}
 use Rattle.rules.proofs.LostSets.{lostAmong, lost-among}
 use Rattle.rules.proofs.Fillings.{filled-only}
 use Rattle.yebarg.specs.declared.answers.Outcome.{Outcome}
@@ -32,7 +32,7 @@ pub record FillTaken (sh : Shape) (lost : ℕ) (stripe : List ℕ) : Type 0 wher
 
 module _ (sh : Shape) (lost : ℕ) (stripe : List ℕ) where
   pub fill-taken : fillRefusal sh lost stripe ≡ none → FillTaken sh lost stripe
-  unfolding fillRefusal shapeRefusal
+  unfolding fillRefusal
   fill-taken e =
       let (a, (b, (c, (d, u)))) =
       none-given
@@ -43,8 +43,8 @@ module _ (sh : Shape) (lost : ℕ) (stripe : List ℕ) where
       ∷ [])
       e in
       record {
-        shape = simp (not-false (accepted sh) a);
-        exact = eqb-true (length stripe) (stripeLength sh) (not-false (eqb (length stripe) (stripeLength sh)) b);
+        shape = not-refused sh a;
+        exact = not-other (length stripe) (stripeLength sh) b;
         none-above = c;
         few = ltb-false (sh .r) (lostCount lost) d;
       }
@@ -59,10 +59,10 @@ module _ (sh : Shape) (lost : ℕ) (stripe : List ℕ) where
 
 module _ (sh : Shape) (stripe : List ℕ) where
   pub parity-taken : parityRefusal sh stripe ≡ none → (shapeRefusal sh ≡ none) × (length stripe ≡ stripeLength sh)
-  unfolding parityRefusal shapeRefusal
+  unfolding parityRefusal
   parity-taken e =
       let (a, (b, u)) = none-given (1 given-when not (accepted sh) ∷ 2 given-when not (eqb (length stripe) (stripeLength sh)) ∷ []) e in
-      (simp (not-false (accepted sh) a), eqb-true (length stripe) (stripeLength sh) (not-false (eqb (length stripe) (stripeLength sh)) b))
+      (not-refused sh a, not-other (length stripe) (stripeLength sh) b)
 
   pub taken→parity : shapeRefusal sh ≡ none → length stripe ≡ stripeLength sh → parityRefusal sh stripe ≡ none
   unfolding parityRefusal

@@ -1,38 +1,19 @@
--- Loops over columns of length l that stand end to end in a buffer; a turn may write one of them. In order: a column put into a buffer, and the others;
--- columns written from the front: none yet, one more, one left as it was; a byte left as it was; a column that is copied whole; columns put each at its
--- node.
+-- Loops over columns of length l that stand end to end in a buffer; a turn may write one of them. In order: columns written from
+-- the front: none yet, one more, one left as it was; a byte left as it was; columns put each at its node.
 --   ColumnsTo new l i before later == the columns below i hold what `new` gives, those from i on are as they were
 -- Assumes nothing.
 use mathlib.Core.Path.{_≡_, refl, sym, ap, _∙_}
-use mathlib.Core.List.{List, _++_, append-nil}
+use mathlib.Core.List.{List}
 use mathlib.Core.Logic.{_⊎_, inl, inr}
-use Prim.Native.Nat.{ℕ, _+_, _-_, _*_, _<_, _≤_, compare, Ordering, Ordering·lt, Ordering·eq, Ordering·gt}
+use Prim.Native.Nat.{ℕ, _+_, _-_, _*_, _<_, _≤_}
 use native.Mathlib.Nat.{eq-or-lt-of-le, le-refl}
 use native.Mathlib.Omega.{arith}
 use borrow.Author.Count.{below-more}
 use lib.ListN.{length, getD, take, drop}
-use lib.Seq.{take-length, drop-length}
 use borrow.Rule.Slice.PartMut.{putMid}
-use Rattle.theory.specs.Pair.{Compared}
-use Rattle.theory.proofs.Mates.{compare-says}
-use Rattle.columns.proofs.Kernels.{Written, written-here, column-within, entry-within}
+use Rattle.columns.proofs.Kernels.{Written, written-here, column-within}
+use Rattle.columns.proofs.Parts.{part-length, part-byte, column-put, column-put-other, column-put-length}
 use Rattle.levels.specs.Kernel.{Once, Placed}
-use Rattle.columns.proofs.Parts.{part-length, part-byte, put-before, put-inside, put-after, put-length}
-
-module _ (l p : ℕ) (xs : List ℕ) (fits : p * l + l ≤ length xs) (ys : List ℕ) (same : length ys ≡ l) where
-  pub column-put : (a : ℕ) → a < l → getD (putMid (p * l) (p * l + l - p * l) xs ys) (p * l + a) 0 ≡ getD ys a 0
-  column-put a h = put-inside (p * l) l xs fits ys same a h
-
-  pub column-put-other : (i a : ℕ) → (i ≡ p → ⊥) → a < l → getD (putMid (p * l) (p * l + l - p * l) xs ys) (i * l + a) 0 ≡ getD xs (i * l + a) 0
-  column-put-other i a ne h = go (compare i p) (compare-says i p)
-    where
-      go : (o : Ordering) → Compared o i p → getD (putMid (p * l) (p * l + l - p * l) xs ys) (i * l + a) 0 ≡ getD xs (i * l + a) 0
-      go Ordering·lt k = put-before (p * l) l xs fits ys same (i * l + a) (entry-within k h)
-      go Ordering·eq e = absurd (ne e)
-      go Ordering·gt k = put-after (p * l) l xs fits ys same (i * l + a) (omega (arith, column-within l k))
-
-  pub column-put-length : length (putMid (p * l) (p * l + l - p * l) xs ys) ≡ length xs
-  column-put-length = put-length (p * l) l xs fits ys same
 
 pub record ColumnsTo (new : ℕ → ℕ → ℕ) (l i : ℕ) (before later : List ℕ) : Type 0 where
   pub same-length : length later ≡ length before
@@ -78,18 +59,6 @@ written-skip {new} {j} {before} {later} was e = record {
   done = below-more (λ k. getD later k 0 ≡ new k) j (was .done) (written-here was ∙ e);
   kept = λ k h. was .kept k (omega (arith, h));
 }
-
--- two parts of the length l are equally long
-pub parts-as-long : (l p q : ℕ) (xs ys : List ℕ) → p + l ≤ length xs → q + l ≤ length ys
-    → length (take (p + l - p) (drop p xs)) ≡ length (take (q + l - q) (drop q ys))
-parts-as-long l p q xs ys h k = part-length p l xs h ∙ sym (part-length q l ys k)
-
--- what `copy` leaves of a part that is as long as what it copies
-pub copied-whole : (xs ys : List ℕ) → length xs ≡ length ys → take (length xs) xs ++ drop (length xs) ys ≡ xs
-copied-whole xs ys e =
-    ap (λ (zs : List ℕ). zs ++ drop (length xs) ys) (take-length xs)
-    ∙ ap (λ (zs : List ℕ). xs ++ zs) (ap (λ k. drop k ys) e ∙ drop-length ys)
-    ∙ append-nil xs
 
 -- columns of `found` put where the nodes listed have theirs: none yet, one more
 pub placed-start : (nodes : List ℕ) (l : ℕ) (found before : List ℕ) → Placed nodes 0 l found before before

@@ -1,24 +1,24 @@
 -- What isn't refused has passed every check of `rebuild`, and the other way round; and what is then written.
 --   RebuildTaken sh failed fractions before == what the checks ask for
-use mathlib.Core.Path.{_≡_, refl}
-use mathlib.Core.Bool.{Bool, true, false, not, _||_, true≢false}
+use mathlib.Core.Path.{_≡_}
+use mathlib.Core.Bool.{not}
 use mathlib.Core.List.{List, [], _∷_}
 use mathlib.Core.Option.{none}
 use Prim.Native.Nat.{ℕ, _-_, _*_, _≤_}
-use lib.Dec.{eqb, ltb}
+use lib.Dec.{eqb}
 use lib.ListN.{length}
-use borrow.Author.Tests.{ltb-false, eqb-true, eq-eqb, not-false}
+use borrow.Author.Tests.{eq-eqb}
 use Rattle.rules.specs.declared.shapes.Shape.{Shape}
 use Rattle.rules.specs.Shape.{accepted, rows}
 use Rattle.rules.specs.Stripe.{IsBytes}
 use Rattle.rules.specs.Fraction.{fractionLength, MeetsRead}
 use Rattle.rules.specs.Refusal.{_given-when_, shapeRefusal}
-use Rattle.rules.proofs.Accepted.{bounds, is-accepted}
-use Rattle.rules.proofs.Checks.{none-given}
+use Rattle.rules.proofs.Checks.{not-other, none-given}
+use Rattle.rules.proofs.Accepted.{bounds, is-accepted, not-refused}
 use Rattle.rules.proofs.Rebuildings.{rebuilt-only}
 use Rattle.yebarg.specs.declared.answers.Outcome.{Outcome}
 use Rattle.yebarg.specs.Refusal.{notNode}
-use Rattle.yebarg.proofs.Refusals.{a-node}
+use Rattle.yebarg.proofs.Refusals.{a-node, is-node}
 use Rattle.rebuild.specs.Refusal.{rebuildRefusal}
 use Rattle.rebuild.specs.Promise.{RebuildMeets}
 
@@ -29,14 +29,9 @@ pub record RebuildTaken (sh : Shape) (failed : ℕ) (fractions before : List ℕ
   pub first : 1 ≤ failed
   pub last : failed ≤ sh .n
 
-neither : (a b : Bool) → (a || b) ≡ false → (a ≡ false) × (b ≡ false)
-neither false false e = (refl, refl)
-neither false true e = (refl, e)
-neither true b e = absurd (true≢false e)
-
 module _ (sh : Shape) (failed : ℕ) (fractions before : List ℕ) where
   pub rebuild-taken : rebuildRefusal sh failed fractions before ≡ none → RebuildTaken sh failed fractions before
-  unfolding rebuildRefusal shapeRefusal notNode
+  unfolding rebuildRefusal
   rebuild-taken e =
       let (a, (b, (c, (d, u)))) =
       none-given
@@ -46,13 +41,13 @@ module _ (sh : Shape) (failed : ℕ) (fractions before : List ℕ) where
       ∷ 3 given-when notNode sh failed
       ∷ [])
       e in
-      let (low, high) = neither (ltb failed 1) (ltb (sh .n) failed) d in
+      let (low, high) = is-node sh failed d in
       record {
-        shape = simp (not-false (accepted sh) a);
-        fractions-long = eqb-true (length fractions) ((sh .n - 1) * fractionLength sh) (not-false (eqb (length fractions) ((sh .n - 1) * fractionLength sh)) b);
-        column-long = eqb-true (length before) (rows sh) (not-false (eqb (length before) (rows sh)) c);
-        first = ltb-false failed 1 low;
-        last = ltb-false (sh .n) failed high;
+        shape = not-refused sh a;
+        fractions-long = not-other (length fractions) ((sh .n - 1) * fractionLength sh) b;
+        column-long = not-other (length before) (rows sh) c;
+        first = low;
+        last = high;
       }
 
   pub taken→rebuild : RebuildTaken sh failed fractions before → rebuildRefusal sh failed fractions before ≡ none

@@ -9,7 +9,7 @@ use Prim.Native.Nat.{ℕ, _+_, _-_, _*_, _/_, _^_, _<_, _≤_}
 use native.Mathlib.Nat.{lt-div-mul-add, div-mul-le-self, div-lt-iff-lt-mul}
 use native.Mathlib.Omega.{arith}
 use lib.Dec.{T, leb, leb→le}
-use borrow.Author.Tests.{le-leb}
+use borrow.Author.Tests.{le-leb, not-false}
 use Rattle.field.proofs.Tests.{all, all-at}
 use Rattle.rules.specs.declared.shapes.Shape.{Shape}
 use Rattle.rules.specs.Shape.{groupSize, groups, rows, accepted}
@@ -36,6 +36,10 @@ refusal-cases sh = go (accepted sh) refl
 
 pub is-accepted : (sh : Shape) → shapeRefusal sh ≡ none → accepted sh ≡ true
 is-accepted sh h = elim (refusal-cases sh) [ inl e ↦ e .0 | inr e ↦ absurd (Option·some-ne-none 1 (sym (e .1) ∙ h)) ]
+
+pub not-refused : (sh : Shape) → not (accepted sh) ≡ false → shapeRefusal sh ≡ none
+unfolding shapeRefusal
+not-refused sh h = simp (not-false (accepted sh) h)
 
 pub is-refused : (sh : Shape) (q : ℕ) → shapeRefusal sh ≡ some q → (accepted sh ≡ false) × (shapeRefusal sh ≡ some 1)
 is-refused sh q h = elim (refusal-cases sh) [ inl e ↦ absurd (Option·none-ne-some q (sym (e .1) ∙ h)) | inr e ↦ e ]

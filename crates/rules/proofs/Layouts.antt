@@ -4,19 +4,19 @@
 -- Not here: what acceptance says, both ways (`Accepted`); a stripe has at most 4,096 bytes (`stripe-most` of crate `yebarg`); group and place of a
 -- node, a digit is below s, the digit that is set, phantoms hold 0 (`node-group`, `node-place`, `digit-below`, `digit-set`, `symbol-phantom` of
 -- `Ties`); a group counts from 1 to m (`group-from-1`, `group-all-most` of `RowsRead`).
-use mathlib.Core.Path.{_≡_, refl, sym, ap, _∙_}
+use mathlib.Core.Path.{_≡_, refl, sym, ap, ap₂, _∙_}
 use mathlib.Core.Bool.{Bool, true, false, _&&_, _||_}
 use mathlib.Core.List.{List}
 use mathlib.Core.Logic.{_⊎_, inl, inr}
 use mathlib.Core.Option.{none}
 use Prim.Native.Nat.{ℕ, zero, suc, _+_, _-_, _*_, _/_, _%_, _^_, _<_, _≤_}
-use native.Mathlib.Nat.{div-add-mod', lt-div-mul-add, lt-of-mul-lt-mul-right, mod-eq-of-lt, mod-one}
+use native.Mathlib.Nat.{add-sub-cancel-left, div-add-mod', lt-div-mul-add, lt-of-mul-lt-mul-right, mod-eq-of-lt, mod-one}
 use native.Mathlib.Nat.{le-antisymm, mul-le-mul-right, one-le-pow, suc-mul, pow-succ', pow-zero}
 use native.Mathlib.Omega.{arith}
 use lib.Arith.{digits-lt, mod-mul}
 use lib.Dec.{T, leb, eqb, eqb→eq}
 use lib.Ieee.Fits.{and-l, and-r}
-use lib.ListN.{length, getD, drop, length-drop}
+use lib.ListN.{length, getD, take, drop, length-drop}
 use lib.Seq.{length-take-le, getD-take, getD-drop}
 use borrow.Author.Tests.{le-ltb, leb-true}
 use Rattle.theory.specs.Set.{count}
@@ -130,18 +130,24 @@ unfolding symbol phantom
 symbol-byte sh stripe i a h = rw (le-ltb (sh .n) i h)
 
 -- "A stripe is n columns of l bytes"
+pub column-room : (sh : Shape) (i : ℕ) → 1 ≤ i → i ≤ sh .n → (i - 1) * rows sh + rows sh ≤ sh .n * rows sh
+column-room sh i h k = rw (← suc-mul (i - 1) (rows sh)) (mul-le-mul-right (rows sh) (omega arith))
+
 pub column-length : (sh : Shape) (stripe : List ℕ) (i : ℕ) → length stripe ≡ stripeLength sh → 1 ≤ i → i ≤ sh .n → length (column sh stripe i) ≡ rows sh
 unfolding column columnStart stripeLength
-column-length sh stripe i e h k = length-take-le (rows sh) (drop ((i - 1) * rows sh) stripe) (rw (length-drop, e) (omega (arith, room)))
-  where
-    room : (i - 1) * rows sh + rows sh ≤ sh .n * rows sh
-    room = rw (← suc-mul (i - 1) (rows sh)) (mul-le-mul-right (rows sh) (omega arith))
+column-length sh stripe i e h k = length-take-le (rows sh) (drop ((i - 1) * rows sh) stripe) (rw (length-drop, e) (omega (arith, column-room sh i h k)))
 
 -- "node 1 first. Column i starts at (i − 1) × l and is handed on as that part of the stripe"
 pub symbol-column : (sh : Shape) (stripe : List ℕ) (i a : ℕ) → i ≤ sh .n → a < rows sh → symbol sh stripe i a ≡ getD (column sh stripe i) a 0
 unfolding column
 symbol-column sh stripe i a h l =
     symbol-byte sh stripe i a h ∙ sym (getD-take (rows sh) (drop (columnStart sh i) stripe) a 0 l ∙ getD-drop (columnStart sh i) stripe a 0)
+
+-- the same of a part that is lent, whose end is given
+pub column-part : (sh : Shape) (stripe : List ℕ) (i : ℕ)
+    → take (i * rows sh + rows sh - i * rows sh) (drop (i * rows sh) stripe) ≡ column sh stripe (suc i)
+unfolding column columnStart
+column-part sh stripe i = ap₂ (λ (k j : ℕ). take k (drop (j * rows sh) stripe)) (add-sub-cancel-left (i * rows sh) (rows sh)) (omega arith)
 
 -- "Data columns are 1 to k"; "the record read back from a stripe is its first k × l bytes"
 pub data-column : (sh : Shape) (stripe : List ℕ) (i a : ℕ) → 1 ≤ i → i ≤ dataNodes sh → a < rows sh

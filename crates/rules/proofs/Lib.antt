@@ -3,6 +3,7 @@
 --   Accepted  == what acceptance says of a shape; bounds of every accepted shape
 --   Measures  == what the answer of `measure` tells
 --   Risings   == lists of the numbers that pass a test
+--   Pieces    == lists laid end to end
 --   RowsRead  == the rows read in closed form, fractions
 --   House     == the code of theory that a shape is; the points differ
 --   Ties      == the rules are theory's
@@ -20,6 +21,7 @@ pub mod Checks
 pub mod Accepted
 pub mod Measures
 pub mod Risings
+pub mod Pieces
 pub mod RowsRead
 pub mod House
 pub mod Ties

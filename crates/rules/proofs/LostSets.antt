@@ -4,11 +4,11 @@
 --   real sh L      == theory's set: node i is there exactly where i + 1 is a node, no phantom, and in L
 use mathlib.Core.Path.{_≡_, refl, sym, ap, ap₂, _∙_}
 use mathlib.Core.Bool.{Bool, true, false, not, _&&_, _||_}
-use Prim.Native.Nat.{ℕ, zero, suc, _+_, _-_, _*_, _/_, _^_, _<_, _≤_}
-use native.Mathlib.Nat.{zero-add, div-lt-iff-lt-mul, one-le-pow}
+use Prim.Native.Nat.{ℕ, zero, suc, _+_, _-_, _*_, _/_, _%_, _^_, _<_, _≤_}
+use native.Mathlib.Nat.{zero-add, div-eq-of-lt, div-lt-iff-lt-mul, one-le-pow}
 use native.Mathlib.Omega.{arith}
 use lib.Dec.{T, eqb, ltb}
-use borrow.Author.Tests.{eqb-true, eq-eqb, lt-ltb, le-ltb, not-false}
+use borrow.Author.Tests.{eq-eqb, lt-ltb, le-ltb}
 use Rattle.theory.specs.Set.{count}
 use Rattle.theory.proofs.Counts.{count-ext, count-none, count-all, count-split, count-beyond}
 use Rattle.field.proofs.Tests.{all, all-at}
@@ -16,8 +16,9 @@ use Rattle.rules.specs.declared.shapes.Shape.{Shape}
 use Rattle.rules.specs.Shape.{groupSize, groups, dataNodes}
 use Rattle.rules.specs.Lost.{isLost, lostCount, bitAbove, isParity}
 use Rattle.rules.specs.Bench.{shape}
+use Rattle.rules.proofs.Checks.{not-other}
 use Rattle.rules.proofs.Accepted.{Bounds, nodes-least}
-use Rattle.rules.proofs.Ties.{lost-tie}
+use Rattle.rules.proofs.Ties.{is-lost-suc, lost-tie}
 
 abbrev pub lostAmong : Shape → (ℕ → Bool) → ℕ
 lostAmong sh L = count (sh .n) (λ i. L (suc i))
@@ -45,17 +46,21 @@ pub bits-below : (n lost : ℕ) → lost / 2 ^ n ≡ 0 → lost < 2 ^ n
 bits-below n lost e =
     omega (arith, div-lt-iff-lt-mul {k = 2 ^ n} {x = lost} {y = 1} (one-le-pow n 2 (omega arith)) .0 (omega arith))
 
+-- then no node above n is lost
+pub lost-beyond : (n lost : ℕ) → lost < 2 ^ n → isLost lost (suc n) ≡ false
+lost-beyond n lost h = is-lost-suc lost n ∙ ap (λ d. eqb (d % 2) 1) (div-eq-of-lt h)
+
 -- no bit above n
+pub no-bit-above : (sh : Shape) (lost : ℕ) → lost / 2 ^ sh .n ≡ 0 → bitAbove sh lost ≡ false
+unfolding bitAbove
+no-bit-above sh lost h = ap not (eq-eqb (lost / 2 ^ sh .n) 0 h)
+
 pub lost-below : (sh : Shape) (lost : ℕ) → bitAbove sh lost ≡ false → lost < 2 ^ sh .n
 unfolding bitAbove
-lost-below sh lost h = bits-below (sh .n) lost (eqb-true (lost / 2 ^ sh .n) 0 (not-false (eqb (lost / 2 ^ sh .n) 0) h))
+lost-below sh lost h = bits-below (sh .n) lost (not-other (lost / 2 ^ sh .n) 0 h)
 
 pub below-lost : (sh : Shape) (lost : ℕ) → lost < 2 ^ sh .n → bitAbove sh lost ≡ false
-unfolding bitAbove
-below-lost sh lost h =
-    ap not
-    (eq-eqb (lost / 2 ^ sh .n) 0
-    (omega (arith, div-lt-iff-lt-mul {k = 2 ^ sh .n} {x = lost} {y = 1} (one-le-pow (sh .n) 2 (omega arith)) .1 (omega (arith, h)))))
+below-lost sh lost h = no-bit-above sh lost (div-eq-of-lt h)
 
 -- "how many are lost is the count of its ones"
 pub lost-among : (sh : Shape) (lost : ℕ) → bitAbove sh lost ≡ false → lostAmong sh (isLost lost) ≡ lostCount lost

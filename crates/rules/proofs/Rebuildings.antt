@@ -2,19 +2,19 @@
 -- one, and there is one; fractions laid end to end, and each found again; those cut out of a whole stripe give its column.
 --   known sh f fractions == theory's stripe of the fractions, with 0 as the failed node's column
 -- Theory's node f is document 01's node f + 1.
-use mathlib.Core.Path.{_≡_, refl, sym, ap, ap₂, _∙_, fun-ext, subst}
-use mathlib.Core.Bool.{Bool, true, false, cond, not, _&&_, _||_, false≢true}
-use mathlib.Core.List.{List, [], _∷_, _++_, flatMap}
-use mathlib.Core.Logic.{_↔_, inl, inr}
+use mathlib.Core.Path.{_≡_, refl, sym, ap, _∙_, fun-ext, subst}
+use mathlib.Core.Bool.{Bool, true, false, cond, not, _&&_, _||_, and-true, and-false}
+use mathlib.Core.List.{List, []}
+use mathlib.Core.Logic.{_↔_}
 use Prim.Native.Nat.{ℕ, zero, suc, _+_, _-_, _*_, _<_, _≤_}
-use native.Mathlib.Nat.{add-sub-of-le, zero-mul, suc-mul, add-comm, not-suc-le-zero, le-of-suc-le-suc}
+use native.Mathlib.Nat.{add-sub-of-le}
 use native.Mathlib.Numerals.{add-one}
 use native.Mathlib.Omega.{arith}
 use lib.Arith.{lt-of-le-ne}
 use lib.Dec.{leb, ltb, eqb}
-use lib.ListN.{length, getD, take, drop, length-append}
-use lib.Seq.{ext-getD, take-at, drop-at, drop-drop}
-use borrow.Author.Tests.{ltb-true, ltb-false, leb-true, eqb-false, eq-eqb, ne-eqb, le-leb}
+use lib.ListN.{length, getD}
+use lib.Seq.{ext-getD}
+use borrow.Author.Tests.{ltb-true, ltb-false, leb-true, eqb-false, eq-eqb, ne-eqb, le-leb, not-true}
 use Rattle.theory.specs.Code.{Code, Stripe, Lawful}
 use Rattle.theory.specs.Code as codes
 use Rattle.theory.specs.Read as reads
@@ -31,8 +31,10 @@ use Rattle.rules.specs.Stripe.{IsBytes, column, symbol}
 use Rattle.rules.specs.Equation.{Whole}
 use Rattle.rules.specs.Fraction.{isRead, rowsRead, fractionLength, fraction, helpers, endToEnd, cutAll, helperBefore, fractionOf, arrived, MeetsRead}
 use Rattle.rules.specs.Rising.{rising, Listed}
+use Rattle.rules.proofs.Checks.{both}
 use Rattle.rules.proofs.Accepted.{Bounds, nodes-least}
 use Rattle.rules.proofs.Risings.{listed→rising, length-rising, getD-rising}
+use Rattle.rules.proofs.Pieces.{flat-same, flat-length, flat-piece}
 use Rattle.rules.proofs.RowsRead.{getD-map, fraction-length}
 use Rattle.rules.proofs.House.{code, stripe, house-lawful}
 use Rattle.rules.proofs.Ties.{symbol-phantom, whole-tie, is-read-tie, arrived-other, meets-read-tie}
@@ -112,30 +114,6 @@ module _ (sh : Shape) (b : Bounds sh) where
       columnOf : (ℕ → numbers .K) → List ℕ
       columnOf x = tabulated (rows sh) (λ a. value (x a))
 
--- pieces of one length, laid end to end
-module _ (w : ℕ) (g : ℕ → List ℕ) where
-  piece : (xs : List ℕ) → ((x : ℕ) → Listed x xs → length (g x) ≡ w) → (j : ℕ) → j < length xs → take w (drop (j * w) (flatMap g xs)) ≡ g (getD xs j 0)
-  unfolding flatMap
-  piece [] same j h = absurd (not-suc-le-zero h)
-  piece (x ∷ xs) same zero h = rw zero-mul (take-at (g x) (flatMap g xs) w (same x (inl refl)))
-  piece (x ∷ xs) same (suc j) h =
-      ap (λ k. take w (drop k (g x ++ flatMap g xs))) (suc-mul j w ∙ add-comm (j * w) w)
-      ∙ ap (take w) (sym (drop-drop (j * w) w (g x ++ flatMap g xs)) ∙ ap (drop (j * w)) (drop-at (g x) (flatMap g xs) w (same x (inl refl))))
-      ∙ piece xs (λ y l. same y (inr l)) j (le-of-suc-le-suc h)
-
-  pieces-length : (xs : List ℕ) → ((x : ℕ) → Listed x xs → length (g x) ≡ w) → length (flatMap g xs) ≡ length xs * w
-  unfolding flatMap
-  pieces-length [] same = sym (zero-mul w)
-  pieces-length (x ∷ xs) same =
-      length-append (g x) (flatMap g xs)
-      ∙ ap₂ _+_ (same x (inl refl)) (pieces-length xs (λ y l. same y (inr l)))
-      ∙ add-comm w (length xs * w) ∙ sym (suc-mul (length xs) w)
-
-pieces-same : (g h : ℕ → List ℕ) (xs : List ℕ) → ((x : ℕ) → Listed x xs → g x ≡ h x) → flatMap g xs ≡ flatMap h xs
-unfolding flatMap
-pieces-same g h [] same = refl
-pieces-same g h (x ∷ xs) same = ap₂ _++_ (same x (inl refl)) (pieces-same g h xs (λ y l. same y (inr l)))
-
 abbrev helps : ℕ → ℕ → Bool
 helps f i = leb 1 i && not (eqb i f)
 
@@ -143,20 +121,9 @@ helps-true : (f i : ℕ) → 1 ≤ i → (i ≡ f → ⊥) → helps f i ≡ tru
 helps-true f i h ne = rw (le-leb 1 i h, ne-eqb i f ne)
 
 helps-says : (f i : ℕ) → helps f i ≡ true → (1 ≤ i) × (i ≡ f → ⊥)
-helps-says f i e = go (leb 1 i) (eqb i f) refl refl e
-  where
-    go : (p q : Bool) → leb 1 i ≡ p → eqb i f ≡ q → (p && not q) ≡ true → (1 ≤ i) × (i ≡ f → ⊥)
-    go true false x y z = (leb-true 1 i x, eqb-false i f y)
-    go true true x y z = absurd (false≢true z)
-    go false q x y z = absurd (false≢true z)
-
-and-true : (c : Bool) → (c && true) ≡ c
-and-true true = refl
-and-true false = refl
-
-and-false : (c : Bool) → (c && false) ≡ false
-and-false true = refl
-and-false false = refl
+helps-says f i e =
+    let (from-1, other) = both (leb 1 i) (not (eqb i f)) e in
+    (leb-true 1 i from-1, eqb-false i f (not-true (eqb i f) other))
 
 -- nodes from 1 on
 nodes-count : (i : ℕ) → sets.count (suc i) (leb 1) ≡ i
@@ -221,18 +188,18 @@ module _ (sh : Shape) (f : ℕ) (first : 1 ≤ f) (last : f ≤ sh .n) where
     pub fraction-of : (i : ℕ) → 1 ≤ i → i ≤ sh .n → (i ≡ f → ⊥) → fractionOf sh f (endToEnd sh f parts) i ≡ parts i
     unfolding fractionOf endToEnd
     fraction-of i h k ne =
-        piece (fractionLength sh) parts (helpers sh f) listed-long (helperBefore f i) (omega (arith, helpers-length, helper-room i h k ne))
+        flat-piece (fractionLength sh) parts (helpers sh f) listed-long (helperBefore f i) (omega (arith, helpers-length, helper-room i h k ne))
         ∙ ap parts (helper-at i h k ne)
 
     pub end-to-end-length : length (endToEnd sh f parts) ≡ (sh .n - 1) * fractionLength sh
     unfolding endToEnd
-    end-to-end-length = pieces-length (fractionLength sh) parts (helpers sh f) listed-long ∙ ap (λ k. k * fractionLength sh) helpers-length
+    end-to-end-length = flat-length (fractionLength sh) parts (helpers sh f) listed-long ∙ ap (λ k. k * fractionLength sh) helpers-length
 
   pub end-to-end-same : (parts others : ℕ → List ℕ) → ((i : ℕ) → 1 ≤ i → i ≤ sh .n → (i ≡ f → ⊥) → parts i ≡ others i)
       → endToEnd sh f parts ≡ endToEnd sh f others
   unfolding endToEnd
   end-to-end-same parts others same =
-      pieces-same parts others (helpers sh f) (λ i l. let (h, k, ne) = helper-is i l in same i h k ne)
+      flat-same parts others (helpers sh f) (λ i l. let (h, k, ne) = helper-is i l in same i h k ne)
 
 -- fewer numbers pass below one that does than below n
 count-passed : (n a : ℕ) (L : ℕ → Bool) → a < n → L a ≡ true → sets.count a L < sets.count n L

@@ -209,10 +209,11 @@ count-first n L =
     one-add : (i : ℕ) → suc i ≡ 1 + i
     one-add i = omega arith
 
-lost-first : (lost : ℕ) → sets.one-if (isLost lost 1) ≡ lost % 2
-lost-first lost = ap sets.one-if (is-lost-suc lost 0) ∙ rw div-one (bit-one (lost % 2) (omega arith))
+-- the lowest bit, and the others
+pub lost-first : (lost : ℕ) → isLost lost 1 ≡ eqb (lost % 2) 1
+lost-first lost = is-lost-suc lost 0 ∙ rw div-one
 
-lost-half : (lost i : ℕ) → isLost lost (suc (suc i)) ≡ isLost (lost / 2) (suc i)
+pub lost-half : (lost i : ℕ) → isLost lost (suc (suc i)) ≡ isLost (lost / 2) (suc i)
 lost-half lost i = is-lost-suc lost (suc i) ∙ simp (is-lost-suc, pow-succ', div-div-eq-div-mul)
 
 pub lost-tie : (n lost : ℕ) → lost < 2 ^ n → sets.count n (λ i. isLost lost (suc i)) ≡ lostCount lost
@@ -220,6 +221,6 @@ unfolding lostCount
 lost-tie zero lost h = count-zero _ ∙ sym (le-zero (ones-le 0 lost h))
 lost-tie (suc n) lost h =
     count-first n _
-    ∙ ap₂ _+_ (lost-first lost)
+    ∙ ap₂ _+_ (ap sets.one-if (lost-first lost) ∙ bit-one (lost % 2) (omega arith))
     (count-ext n _ _ (λ i l. lost-half lost i) ∙ lost-tie n (lost / 2) (div-lt-iff-lt-mul (omega arith) .1 (rw pow-suc at h)))
     ∙ sym (ones-step lost)

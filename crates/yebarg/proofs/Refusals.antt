@@ -13,6 +13,7 @@ use Rattle.rules.specs.Shape.{accepted, rows}
 use Rattle.rules.specs.Stripe.{stripeLength, dataLength}
 use Rattle.rules.specs.Fraction.{fractionLength}
 use Rattle.rules.specs.Refusal.{firstOf, _given-when_, shapeRefusal}
+use Rattle.rules.proofs.Checks.{neither}
 use Rattle.rules.proofs.Accepted.{is-accepted, is-refused}
 use Rattle.yebarg.specs.Refusal.{notNode, layRefusal, readBackRefusal, cutRefusal}
 use Rattle.yebarg.specs.Promise.{Writes}
@@ -28,6 +29,10 @@ not-node-high sh i h k = simp (le-ltb i 1 h, lt-ltb (sh .n) i k)
 pub a-node : (sh : Shape) (i : ℕ) → 1 ≤ i → i ≤ sh .n → notNode sh i ≡ false
 unfolding notNode
 a-node sh i h k = simp (le-ltb i 1 h, le-ltb (sh .n) i k)
+
+pub is-node : (sh : Shape) (i : ℕ) → notNode sh i ≡ false → (1 ≤ i) × (i ≤ sh .n)
+unfolding notNode
+is-node sh i h = let (low, high) = neither (ltb i 1) (ltb (sh .n) i) h in (ltb-false i 1 low, ltb-false (sh .n) i high)
 
 module _ (sh : Shape) (rec stripe : List ℕ) where
   pub lay-shape : shapeRefusal sh ≡ some 1 → layRefusal sh rec stripe ≡ some 1

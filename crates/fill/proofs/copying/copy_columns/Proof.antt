@@ -11,9 +11,10 @@ use lib.ListN.{length, getD, take, drop}
 use borrow.Author.Needs.{needs}
 use borrow.Rule.Slice.PartMut.{putMid}
 use Rattle.columns.proofs.Kernels.{column-within}
-use Rattle.columns.proofs.Parts.{part-length, part-byte}
+use Rattle.columns.proofs.Parts.{part-length, part-byte, parts-as-long}
+use Rattle.yebarg.proofs.Lists.{laid-over-all}
 use Rattle.levels.specs.Promise.{chosen}
-use Rattle.levels.proofs.Columns.{ColumnsTo, columns-start, columns-put, columns-skip, columns-within, parts-as-long, copied-whole}
+use Rattle.levels.proofs.Columns.{ColumnsTo, columns-start, columns-put, columns-skip, columns-within}
 use Rattle.fill.proofs.copying.copy_columns.Statement.{statement}
 use Rattle.fill.proofs.copying.copy_columns.Tie as tie
 
@@ -79,7 +80,7 @@ both l i = parts-as-long l (i * l) (i * l)
 copy-requires : tie.Need-copy-requires Inv-loop μ-loop
 copy-requires c κs =
     let y = c .before .before .before in
-    omega (arith, both (start y .args .l) (y .before .loop .i) (start y .args .from .now) (y .before .loop .to) (from-within y) (to-within y))
+    omega (arith, both (start y .args .l) (y .before .loop .i) (y .before .loop .to) (start y .args .from .now) (to-within y) (from-within y))
 
 add-i : tie.Need-add-i Inv-loop μ-loop
 add-i c = record { fits = omega (arith, c .before .loop-test .taken, start (c .before) .pre .0 .0) }
@@ -114,7 +115,7 @@ loop-again c =
       ⊎-elim
           (λ w. subst (ColumnsTo (copiedAt (a .t3) (a .l) (a .from .now) (a .to .now)) (a .l) (x .i + 1) (a .to .now)) (sym (w .6))
           (put-step (a .t3) (a .l) (x .i) (a .from .now) (a .to .now) (x .to) _ (from-within y) (to-within y) (w .0 .taken)
-          (w .3 .ensures .1 ∙ copied-whole _ _ (both (a .l) (x .i) _ _ (from-within y) (to-within y))) (x .inv .1)))
+          (w .3 .ensures .1 ∙ laid-over-all _ _ (both (a .l) (x .i) _ _ (to-within y) (from-within y))) (x .inv .1)))
           (λ w. subst (ColumnsTo (copiedAt (a .t3) (a .l) (a .from .now) (a .to .now)) (a .l) (x .i + 1) (a .to .now)) (sym (w .1))
           (skip-step (a .t3) (a .l) (x .i) (a .from .now) (a .to .now) (x .to) (w .0 .left) (x .inv .1)))
           (c .if1 .came),

@@ -19,11 +19,11 @@ use Rattle.yebarg.proofs.Lengths.{stripe-is}
 use Rattle.levels.specs.Promise.{chosen}
 use Rattle.fill.specs.Kernel.{FlagsAre}
 use Rattle.fill.specs.Refusal.{fillRefusal}
-use Rattle.rules.proofs.LostSets.{lost-below}
+use Rattle.rules.proofs.LostSets.{no-bit-above, lost-below}
 use Rattle.rules.proofs.Fillings.{filled-same-set}
 use Rattle.fill.proofs.Flags.{lost-none, lost-count}
 use Rattle.fill.proofs.Taken.{taken→fill}
-use Rattle.fill.proofs.Refusals.{fill-shape, fill-length, fill-bit, fill-many, no-bit-above, fill-refused, fill-done, fill-unfillable}
+use Rattle.fill.proofs.Refusals.{fill-shape, fill-length, fill-bit, fill-many, fill-refused, fill-done, fill-unfillable}
 use Rattle.fill.proofs.filling.fill.Statement.{statement}
 use Rattle.fill.proofs.filling.fill.Tie as tie
 
@@ -94,7 +94,7 @@ returns-3 c =
     fill-refused _ _ _ (fill-bit _ _ _ (sizes z .taken) (c .before .before .if1 .left ∙ stripe-end z) (λ e. c .if2 .taken (ap (λ n. lost-of z / 2 ^ n) (sizes z .n-is) ∙ e)))
 
 cast-count : tie.Need-cast-count
-cast-count c = let z = c .before .before .before .before .before in record { fits = omega (arith, ones-le (start z .args .shape .n) (lost-of z) (lost-below (start z .args .shape) (lost-of z) (no-bit-above (start z .args .shape) (lost-of z) (start z .args .stripe .now) (bits-end z (c .if2 .left)))), sizes z .n-is, few z .n-most) }
+cast-count c = let z = c .before .before .before .before .before in record { fits = omega (arith, ones-le (start z .args .shape .n) (lost-of z) (lost-below (start z .args .shape) (lost-of z) (no-bit-above (start z .args .shape) (lost-of z) (bits-end z (c .if2 .left)))), sizes z .n-is, few z .n-most) }
 
 returns-4 : tie.Need-returns-4
 returns-4 c =
@@ -121,7 +121,7 @@ passed c =
     taken→fill _ _ _ (record {
       shape = sizes z .taken;
       exact = c .before .before .before .before .if1 .left ∙ stripe-end z;
-      none-above = no-bit-above _ _ (start z .args .stripe .now) (bits-end z (c .before .before .if2 .left));
+      none-above = no-bit-above _ _ (bits-end z (c .before .before .if2 .left));
       few = at-most z (c .if3 .left);
     })
 

@@ -7,8 +7,10 @@ use native.Mathlib.Omega.{arith}
 use lib.ListN.{length, getD, take, drop}
 use borrow.Author.Needs.{needs}
 use Rattle.columns.proofs.Kernels.{column-within, product-small}
+use Rattle.columns.proofs.Parts.{parts-as-long}
+use Rattle.yebarg.proofs.Lists.{laid-over-all}
 use Rattle.levels.specs.Kernel.{Placed}
-use Rattle.levels.proofs.Columns.{placed-start, placed-step, parts-as-long, copied-whole}
+use Rattle.levels.proofs.Columns.{placed-start, placed-step}
 use Rattle.levels.proofs.correcting.place_columns.Statement.{statement}
 use Rattle.levels.proofs.correcting.place_columns.Tie as tie
 
@@ -85,9 +87,9 @@ part-copy-end-2 c = to-within (c .before)
 
 -- the two parts are equally long
 both : (c : tie.In-loop Inv-loop μ-loop)
-    → length (take (at c * size c + size c - at c * size c) (drop (at c * size c) (start c .args .found .now)))
-    ≡ length (take (node c * size c + size c - node c * size c) (drop (node c * size c) (c .before .loop .to)))
-both c = parts-as-long (size c) (at c * size c) (node c * size c) (start c .args .found .now) (c .before .loop .to) (found-within c) (to-within c)
+    → length (take (node c * size c + size c - node c * size c) (drop (node c * size c) (c .before .loop .to)))
+    ≡ length (take (at c * size c + size c - at c * size c) (drop (at c * size c) (start c .args .found .now)))
+both c = parts-as-long (size c) (node c * size c) (at c * size c) (c .before .loop .to) (start c .args .found .now) (to-within c) (found-within c)
 
 copy-requires : tie.Need-copy-requires Inv-loop μ-loop
 copy-requires c κs = omega (arith, both (c .before .before))
@@ -105,7 +107,7 @@ loop-again c =
     let x = y .before .loop in (
       omega (arith, y .loop-test .taken),
       placed-step (a .t3) (a .l) (x .j) (a .found .now) (a .to .now) (x .to) (x .inv .1) (start y .pre .1 .1 .1) (y .loop-test .taken)
-          (found-within y) (to-within y) _ (c .before .before .copy .ensures .1 ∙ copied-whole _ _ (both y)),
+          (found-within y) (to-within y) _ (c .before .before .copy .ensures .1 ∙ laid-over-all _ _ (both y)),
     )
 
 same-length : tie.Need-same-length Inv-loop μ-loop
