@@ -1,0 +1,28 @@
+-- What the entry promises of its answer, for every input.
+--   LayoutIs pack found == the pack is the pack of the shape and the held set that are found, with the bytes from `start` on as the columns
+--   LayoutMeets == `read_layout`: refused by number, or the layout is found
+use mathlib.Core.Path.{_≡_}
+use mathlib.Core.Bool.{false}
+use mathlib.Core.List.{List}
+use mathlib.Core.Option.{none}
+use Prim.Native.Nat.{ℕ}
+use lib.ListN.{length, drop}
+use Rattle.rules.specs.Lost.{bitAbove}
+use Rattle.rules.specs.Refusal.{shapeRefusal}
+use Rattle.layout.specs.declared.answers.Found.{Found}
+use Rattle.layout.specs.declared.answers.Layout.{Layout}
+use Rattle.layout.specs.declared.answers.Layout.the-variants as layout
+use Rattle.layout.specs.Pack.{nodesOf, columnsAt, totalOf, packed}
+use Rattle.layout.specs.Refusal.{layoutRefusal}
+use Rattle.layout.specs.Answer.{refusalOfLayout}
+
+pub record LayoutIs (pack : List ℕ) (found : Found) : Type 0 where
+  pub taken : shapeRefusal (found .shape) ≡ none
+  pub inside : bitAbove (found .shape) (found .held) ≡ false
+  pub starts : found .start ≡ columnsAt (length (nodesOf (found .shape) (found .held)))
+  pub long : length pack ≡ totalOf (found .shape) (length (nodesOf (found .shape) (found .held)))
+  pub is : pack ≡ packed (found .shape) (found .held) (drop (found .start) pack)
+
+pub record LayoutMeets (pack : List ℕ) (answer : Layout) : Type 0 where
+  pub answered : refusalOfLayout answer ≡ layoutRefusal pack
+  pub finds : (found : Found) → answer ≡ layout.Accepted found → LayoutIs pack found
