@@ -1,20 +1,21 @@
 -- What the demands need, step by step. In order: answers; what a fill that is accepted did; data columns and the record; a whole stripe; nothing lost;
--- lost numbers for parity; stripes that differ in lost columns; parity beside a fill; a record that was laid; sums and multiples; fractions that were cut.
-use mathlib.Core.Path.{_≡_, refl, sym, ap, _∙_, subst}
+-- lost numbers for parity; stripes that differ in lost columns; parity beside a fill; a record that was laid; sums and multiples; fractions that were cut;
+-- a pack that was read and printed.
+use mathlib.Core.Path.{_≡_, refl, sym, ap, ap₂, _∙_, subst}
 use mathlib.Core.Bool.{Bool, true, false, not, cond}
 use mathlib.Core.List.{List, [], _∷_, _++_}
 use mathlib.Core.Logic.{_↔_}
 use mathlib.Core.Option.{Option, none, some, Option·none-ne-some, Option·some-ne-none}
-use Prim.Native.Nat.{ℕ, zero, suc, _-_, _/_, _%_, _^_, _<_, _≤_}
+use Prim.Native.Nat.{ℕ, zero, suc, _-_, _*_, _/_, _%_, _^_, _<_, _≤_}
 use native.Mathlib.Nat.{zero-div, one-le-pow}
 use native.Mathlib.Omega.{arith}
 use lib.Dec.{eqb, ltb}
-use lib.ListN.{length, getD, take, replicate, length-replicate}
-use lib.Seq.{ext-getD, length-take-le, getD-take}
+use lib.ListN.{length, getD, take, drop, replicate, length-append, length-drop, length-replicate}
+use lib.Seq.{ext-getD, length-take-le, getD-take, drop-append-le, take-append-le}
 use borrow.Author.Tests.{ltb-false, le-ltb}
 use Rattle.rules.specs.declared.shapes.Shape.{Shape}
 use Rattle.rules.specs.Shape.{dataNodes, rows, accepted}
-use Rattle.rules.specs.Stripe.{IsBytes, stripeLength, dataLength, column, readBack, plusBytes, timesBytes}
+use Rattle.rules.specs.Stripe.{IsBytes, stripeLength, dataLength, columnStart, column, readBack, plusBytes, timesBytes}
 use Rattle.rules.specs.Fraction.{fractionLength, fraction, endToEnd, cutAll}
 use Rattle.rules.specs.Equation.{Whole}
 use Rattle.rules.specs.Lost.{isLost, lostCount, bitAbove, isParity, Filled}
@@ -22,7 +23,7 @@ use Rattle.rules.specs.Refusal.{firstOf, _given-when_, shapeRefusal}
 use Rattle.rules.proofs.Accepted.{Bounds, bounds}
 use Rattle.rules.proofs.LostSets.{below-lost, lostAmong, lost-among, among-same, parity-among}
 use Rattle.rules.proofs.Fillings.{OnNodes, filled-only, filled-same-survivors, filled-same-set, filled-plus, filled-times}
-use Rattle.rules.proofs.Layouts.{column-length, symbol-column}
+use Rattle.rules.proofs.Layouts.{column-room, column-length, symbol-column}
 use Rattle.rules.proofs.Rebuildings.{end-to-end-same, cut-rebuilt, cut-all-length}
 use Rattle.rules.proofs.Ties.{lost-tie}
 use Rattle.theory.proofs.Counts.{count-zero}
@@ -34,7 +35,7 @@ use Rattle.yebarg.specs.Refusal.{readBackRefusal}
 use Rattle.yebarg.specs.Promise.{LayMeets, CutMeets}
 use Rattle.yebarg.proofs.Refusals.{a-node, cut-accepted, lay-taken, read-back-accepted, accepted-writes}
 use Rattle.yebarg.proofs.Laying.{read-back-after-lay}
-use Rattle.yebarg.proofs.Lengths.{data-most}
+use Rattle.yebarg.proofs.Lengths.{stripe-most, data-most}
 use Rattle.yebarg.proofs.Settled.{refusal-only}
 use Rattle.rebuild.specs.Refusal.{rebuildRefusal}
 use Rattle.rebuild.specs.Promise.{RebuildMeets}
@@ -42,6 +43,14 @@ use Rattle.rebuild.proofs.Taken.{taken→rebuild, rebuild-answers}
 use Rattle.fill.specs.Refusal.{fillRefusal, parityRefusal}
 use Rattle.fill.specs.Promise.{FillMeets, ParityMeets}
 use Rattle.fill.proofs.Taken.{fill-taken, taken→fill, fill-answers, parity-taken}
+use Rattle.pack.specs.declared.answers.Unpacked.{Unpacked}
+use Rattle.pack.specs.Refusal.{stripeMost}
+use Rattle.text.specs.declared.answers.Printed.{Printed}
+use Rattle.text.specs.declared.answers.Printed.the-variants.{Length}
+use Rattle.text.specs.declared.answers.Printed.the-variants as texts
+use Rattle.text.specs.Text.{printed}
+use Rattle.text.specs.Refusal.{printRefusal}
+use Rattle.text.specs.Promise.{PrintMeets}
 
 pub done : (answer : Outcome) → refusal answer ≡ none → answer ≡ Done
 done answer e = refusal-only answer Done e
@@ -340,3 +349,27 @@ rebuilt-back sh failed W before answer later accepted first last bytes whole roo
           first = first;
           last = last;
         })
+
+-- the lent bytes after a pack is read: as many, and in front the columns of the stripe
+module _ (sh : Shape) (stripe before later : List ℕ) (exact : length stripe ≡ stripeLength sh) (is : later ≡ stripe ++ drop (stripeLength sh) before) where
+  pub still-room : shapeRefusal sh ≡ none → length before ≡ stripeMost → length later ≡ stripeMost
+  still-room taken room =
+      ap length is
+      ∙ length-append stripe (drop (stripeLength sh) before)
+      ∙ omega (arith, exact, room, length-drop (stripeLength sh) before, stripe-most sh (bounds sh taken))
+
+  pub front-columns : (i : ℕ) → 1 ≤ i → i ≤ sh .n → column sh later i ≡ column sh stripe i
+  unfolding column columnStart stripeLength
+  front-columns i h k =
+      ap (λ list. take (rows sh) (drop ((i - 1) * rows sh) list)) is
+      ∙ ap (take (rows sh)) (drop-append-le ((i - 1) * rows sh) stripe _ (omega (arith, exact, column-room sh i h k)))
+      ∙ take-append-le (rows sh) (drop ((i - 1) * rows sh) stripe) _ (rw length-drop (omega (arith, exact, column-room sh i h k)))
+
+-- what is printed, where its text is known
+pub text-written : (answer : Unpacked) (stripe before : List ℕ) (result : Printed) (later text : List ℕ)
+    → printRefusal stripe before ≡ none → printed answer stripe ≡ text → PrintMeets answer stripe before result later
+    → (result ≡ Length (length text)) × (later ≡ text ++ drop (length text) before)
+text-written answer stripe before (Length k) later text passed is (_, exact, written) =
+    let size : k ≡ length text = exact ∙ ap length is in
+    (ap Length size, written ∙ ap₂ (λ (t : List ℕ) (j : ℕ). t ++ drop j before) is size)
+text-written answer stripe before (texts.Refused q) later text passed is (refused, _) = absurd (Option·none-ne-some q (sym passed ∙ refused))

@@ -5,13 +5,14 @@
 --   IsBytes n list     == n bytes
 --   Whole sh stripe    == every row of the stripe meets its r equations
 --   Filled sh L stripe W == W is n × l bytes, is whole, and has the columns of the stripe outside the set L, which are the survivors'
-use mathlib.Core.Path.{_≡_, refl, sym, ap, _∙_}
+use mathlib.Core.Path.{_≡_, refl, sym, ap, subst, _∙_}
 use mathlib.Core.Bool.{false}
 use mathlib.Core.List.{List, _++_}
 use mathlib.Core.Logic.{_↔_}
-use mathlib.Core.Option.{Option, none, some, Option·some-ne-none}
+use mathlib.Core.Option.{Option, none, some, Option·some-ne-none, Option·none-ne-some}
 use Prim.Native.Nat.{ℕ, _-_, _^_, _≤_}
-use lib.ListN.{length, replicate}
+use lib.ListN.{length, take, drop, replicate}
+use lib.Seq.{take-at}
 use Rattle.rules.specs.declared.shapes.Shape.{Shape}
 use Rattle.rules.specs.Shape.{dataNodes, rows}
 use Rattle.rules.specs.Stripe.{IsBytes, stripeLength, dataLength, column, symbol, readBack, plusBytes, timesBytes}
@@ -42,6 +43,26 @@ use Rattle.rebuild.specs.Promise.{RebuildMeets}
 use Rattle.fill.specs.Refusal.{fillRefusal, parityRefusal}
 use Rattle.fill.specs.Promise.{FillMeets, ParityMeets}
 use Rattle.fill.proofs.Taken.{FillTaken, fill-taken, taken→fill, taken→parity}
+use Rattle.layout.specs.declared.answers.Layout.{Layout}
+use Rattle.pack.specs.declared.answers.Unpacked.{Unpacked}
+use Rattle.pack.specs.declared.answers.Unpacked.the-variants as packs
+use Rattle.layout.specs.Pack.{others, columnsOf, packed}
+use Rattle.pack.specs.Refusal.{stripeMost}
+use Rattle.layout.specs.Refusal.{layoutRefusal}
+use Rattle.pack.specs.Refusal.{readRefusal}
+use Rattle.layout.specs.Answer.{refusalOfLayout}
+use Rattle.pack.specs.Answer.{refusalOfRead}
+use Rattle.layout.specs.Promise.{LayoutMeets}
+use Rattle.pack.specs.Promise.{ReadMeets}
+use Rattle.pack.proofs.Unpacking.{read-gives-back}
+use Rattle.text.specs.declared.answers.Printed.{Printed}
+use Rattle.text.specs.declared.answers.Printed.the-variants as texts
+use Rattle.text.specs.Text.{readText, printed, longestText}
+use Rattle.text.specs.Refusal.{printRefusal}
+use Rattle.text.specs.Answer.{refusalOfPrint}
+use Rattle.text.specs.Promise.{PrintMeets}
+use Rattle.text.proofs.Refusals.{print-taken}
+use Rattle.text.proofs.Readers.{reader-printed, same-text}
 use Rattle.demands.proofs.Deeds as deeds
 
 -- DEMAND 1. "Every public entry takes every input and ends." No entry has a `requires`, and that it ends is part of what the checker proves of its
@@ -97,6 +118,21 @@ pub fill-refusals : (sh : Shape) (lost : ℕ) (stripe : List ℕ) (answer : Outc
     × (fillRefusal sh lost stripe ≡ none → (q : ℕ) → refusal answer ≡ some q → q ≡ 5)
     × ((q : ℕ) → refusal answer ≡ some q → later ≡ stripe)
 fill-refusals sh lost stripe answer later p = (p .refused, λ e q r. p .unfillable e q r .0, p .kept)
+
+-- of a pack, in the pack reader's own order. Reading the layout is lent nothing to write
+pub layout-refusals : (pack : List ℕ) (answer : Layout) → LayoutMeets pack answer → refusalOfLayout answer ≡ layoutRefusal pack
+layout-refusals pack answer p = p .answered
+
+pub read-refusals : (pack before : List ℕ) (answer : Unpacked) (later : List ℕ) → ReadMeets pack before answer later
+    → ((q : ℕ) → readRefusal pack before ≡ some q → refusalOfRead answer ≡ some q)
+    × (readRefusal pack before ≡ none → (q : ℕ) → refusalOfRead answer ≡ some q → q ≡ 5)
+    × ((q : ℕ) → refusalOfRead answer ≡ some q → later ≡ before)
+read-refusals pack before answer later p = (p .refused, λ e q r. p .unfillable e q r .0, p .kept)
+
+pub print-refusals : (answer : Unpacked) (stripe before : List ℕ) (result : Printed) (later : List ℕ) → PrintMeets answer stripe before result later
+    → (refusalOfPrint result ≡ printRefusal stripe before) × ((q : ℕ) → refusalOfPrint result ≡ some q → later ≡ before)
+print-refusals answer stripe before (texts.Length k) later (passed, _, _) = (sym passed, λ q e. absurd (Option·none-ne-some q e))
+print-refusals answer stripe before (texts.Refused k) later (refused, kept) = (sym refused, λ q e. kept)
 
 -- DEMAND 2. "A stripe is whole exactly when it meets the parity equations of Ye and Barg with our field and points."
 -- The equations are (3) of source 000, with the matrices of (4), (5) and (6), which there are
@@ -267,3 +303,36 @@ record-survives sh lost rec stripe laid coded damaged filled answer p q taken su
     let f = deeds.parity-filled sh laid coded q in
     let (e, back) = fill-gives-back sh lost damaged coded answer filled taken (f .bytes) (f .whole) survivors r in
     (e, ap (readBack sh) back ∙ parity-keeps-record sh laid coded q ∙ deeds.laid-record sh rec stripe laid p (deeds.parity-exact sh laid coded q))
+
+-- and by a pack: a record is laid, parity is filled, the columns are packed with at most r of them missing, the pack is read. What is answered is the shape
+-- and the missing nodes; what is read back of the stripe is the record, and zeros after it
+pub record-survives-packing : (sh : Shape) (lost : ℕ) (rec stripe laid coded before later : List ℕ) (answer : Unpacked)
+    → LayMeets sh rec stripe Done laid → ParityMeets sh laid Done coded
+    → bitAbove sh lost ≡ false → lostCount lost ≤ sh .r → length before ≡ stripeMost
+    → ReadMeets (packed sh (others sh lost) (columnsOf sh (others sh lost) coded)) before answer later
+    → (answer ≡ packs.Accepted (record { shape = sh; lost = lost }))
+    × (readBack sh (take (stripeLength sh) later) ≡ rec ++ replicate (dataLength sh - length rec) 0)
+record-survives-packing sh lost rec stripe laid coded before later answer p q inside few room r =
+    let f = deeds.parity-filled sh laid coded q in
+    let (e, back) = read-gives-back sh lost coded before answer later (deeds.parity-shape sh laid coded q) inside few (f .bytes) (f .whole) room r in (
+      e,
+      ap (λ later. readBack sh (take (stripeLength sh) later)) back
+          ∙ ap (readBack sh) (take-at coded (drop (stripeLength sh) before) (stripeLength sh) (f .bytes .exact))
+          ∙ parity-keeps-record sh laid coded q ∙ deeds.laid-record sh rec stripe laid p (deeds.parity-exact sh laid coded q),
+    )
+
+-- and what is printed of a pack of a whole stripe's columns with at most r of them missing: the shape, the missing nodes, and these columns of the stripe
+pub pack-printed : (sh : Shape) (lost : ℕ) (stripe before later text written : List ℕ) (answer : Unpacked) (result : Printed)
+    → shapeRefusal sh ≡ none → bitAbove sh lost ≡ false → lostCount lost ≤ sh .r → IsBytes (stripeLength sh) stripe → Whole sh stripe
+    → length before ≡ stripeMost → length text ≡ longestText
+    → ReadMeets (packed sh (others sh lost) (columnsOf sh (others sh lost) stripe)) before answer later → PrintMeets answer later text result written
+    → (result ≡ texts.Length (length (readText sh lost stripe)))
+    × (written ≡ readText sh lost stripe ++ drop (length (readText sh lost stripe)) text)
+pack-printed sh lost stripe before later text written answer result taken inside few bytes whole room long r p =
+    let (e, back) = read-gives-back sh lost stripe before answer later taken inside few bytes whole room r in
+    deeds.text-written answer later text result written (readText sh lost stripe)
+    (print-taken later text (deeds.still-room sh stripe before later (bytes .exact) back taken room) long)
+    (ap (λ a. printed a later) e
+    ∙ reader-printed _ before _ later (subst (λ a. ReadMeets (packed sh (others sh lost) (columnsOf sh (others sh lost) stripe)) before a later) e r) later
+    ∙ same-text sh lost later stripe (deeds.front-columns sh stripe before later (bytes .exact) back))
+    p
