@@ -17,10 +17,13 @@ use Rattle.layout.specs.Refusal.{layoutRefusal}
 use Rattle.layout.specs.Answer.{refusalOfLayout}
 
 pub record LayoutIs (pack : List ℕ) (found : Found) : Type 0 where
+  -- an accepted shape, and a set of its nodes
   pub taken : shapeRefusal (found .shape) ≡ none
   pub inside : bitAbove (found .shape) (found .held) ≡ false
+  -- the columns begin after the entries, and the pack is as long as its total says
   pub starts : found .start ≡ columnsAt (length (nodesOf (found .shape) (found .held)))
   pub long : length pack ≡ totalOf (found .shape) (length (nodesOf (found .shape) (found .held)))
+  -- it is the pack of these
   pub is : pack ≡ packed (found .shape) (found .held) (drop (found .start) pack)
 
 pub record LayoutMeets (pack : List ℕ) (answer : Layout) : Type 0 where

@@ -24,7 +24,7 @@ use Rattle.rules.proofs.Fillings.{filled-wider}
 use Rattle.rules.proofs.Benches.{parity-C, bench-shape}
 use Rattle.fill.proofs.Settled.{nothing-fills-K}
 use Rattle.layout.specs.Pack.{nodesOf, others, columnsOf, fourBytes, entryAt, columnsAt, offsetOf, totalOf, header, entry, entriesFrom, packedNodes}
-use Rattle.layout.specs.Pack.{packed, largestPack, inputMost}
+use Rattle.layout.specs.Pack.{packed, inputMost}
 use Rattle.layout.specs.Parts.{numberAt, totalIn}
 use Rattle.layout.specs.Refusal.{firstFrom, firstBadEntry, wrongTotal, firstWrongOffset, wrongLength, layoutRefusal}
 use Rattle.layout.proofs.Packs.{largest-pack, excess-shows}
@@ -42,12 +42,17 @@ refused-is : (a : Unpacked) (q : ℕ) → refusalOfRead a ≡ some q → a ≡ R
 refused-is (Accepted c) q e = absurd (Option·none-ne-some q e)
 refused-is (Refused k) q e = ap Refused (Option·some-injective _ _ e)
 
+-- two packs that are refused alike leave the same bytes
+same-refused : (pack other before : List ℕ) (a b : Unpacked) (x y : List ℕ) → ReadMeets pack before a x → ReadMeets other before b y
+    → (k : ℕ) → refusalOfRead a ≡ some k → refusalOfRead b ≡ some k → (a ≡ b) × (x ≡ y)
+same-refused pack other before a b x y p q k e f = (refused-is a k e ∙ sym (refused-is b k f), p .kept k e ∙ sym (q .kept k f))
+
 module _ (pack before : List ℕ) (a b : Unpacked) (x y : List ℕ) (p : ReadMeets pack before a x) (q : ReadMeets pack before b y) where
   pub read-settled : (a ≡ b) × (x ≡ y)
   read-settled = go (readRefusal pack before) refl
     where
       both : (k : ℕ) → refusalOfRead a ≡ some k → refusalOfRead b ≡ some k → (a ≡ b) × (x ≡ y)
-      both k e f = (refused-is a k e ∙ sym (refused-is b k f), p .kept k e ∙ sym (q .kept k f))
+      both = same-refused pack pack before a b x y p q
 
       answered : readRefusal pack before ≡ none → (u v : Unpacked) → a ≡ u → b ≡ v → (a ≡ b) × (x ≡ y)
       answered t (Accepted c) (Accepted d) e f =
@@ -74,7 +79,7 @@ pub excess-read : (pack before : List ℕ) (a b : Unpacked) (x y : List ℕ) →
 excess-read pack before a b x y p q = go (layoutRefusal pack) refl
   where
     both : (k : ℕ) → refusalOfRead a ≡ some k → refusalOfRead b ≡ some k → (a ≡ b) × (x ≡ y)
-    both k e f = (refused-is a k e ∙ sym (refused-is b k f), p .kept k e ∙ sym (q .kept k f))
+    both = same-refused (take inputMost pack) pack before a b x y p q
 
     go : (r : Option ℕ) → layoutRefusal pack ≡ r → (a ≡ b) × (x ≡ y)
     go none e =

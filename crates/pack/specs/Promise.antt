@@ -26,8 +26,10 @@ pub record Unpacks (sh : Shape) (lost : ℕ) (pack stripe : List ℕ) : Type 0 w
   pub is : pack ≡ packed sh (others sh lost) (columnsOf sh (others sh lost) stripe)
 
 pub record ReadIs (pack before : List ℕ) (contents : Contents) (later : List ℕ) : Type 0 where
+  -- an accepted shape, and a set of its nodes
   pub taken : shapeRefusal (contents .shape) ≡ none
   pub inside : bitAbove (contents .shape) (contents .lost) ≡ false
+  -- the stripe in front, and the bytes after it
   pub filled : Unpacks (contents .shape) (contents .lost) pack (take (stripeLength (contents .shape)) later)
   pub kept : drop (stripeLength (contents .shape)) later ≡ drop (stripeLength (contents .shape)) before
 

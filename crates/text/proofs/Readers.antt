@@ -1,12 +1,11 @@
 -- The text of what the pack reader answers. In order: a reader's answer calls for no refusal, so that its shape, its lost nodes and their columns are printed;
 -- of a stripe with more bytes after it the same lines are printed.
-use mathlib.Core.Path.{_≡_, refl, ap, _∙_}
+use mathlib.Core.Path.{_≡_, refl, ap}
 use mathlib.Core.List.{List, _++_}
 use mathlib.Core.Option.{Option, none, some, Option·none-ne-some}
 use Prim.Native.Nat.{ℕ, _≤_}
-use lib.ListN.{length}
 use Rattle.rules.specs.declared.shapes.Shape.{Shape}
-use Rattle.rules.specs.Stripe.{stripeLength, column}
+use Rattle.rules.specs.Stripe.{column}
 use Rattle.rules.proofs.Pieces.{flat-same}
 use Rattle.layout.specs.Pack.{nodesOf}
 use Rattle.layout.proofs.Sets.{listed-held}

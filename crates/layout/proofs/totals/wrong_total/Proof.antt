@@ -8,7 +8,7 @@ use native.Mathlib.Nat.{mul-le-mul, le-of-suc-le-suc}
 use native.Mathlib.Omega.{arith}
 use lib.Dec.{eqb}
 use lib.ListN.{length, getD}
-use Rattle.layout.specs.Pack.{columnsAt, totalOf, entryAt}
+use Rattle.layout.specs.Pack.{totalOf}
 use Rattle.layout.specs.Parts.{totalIn}
 use Rattle.layout.specs.Refusal.{wrongTotal}
 use Rattle.layout.proofs.Positions.{columns-begin}
