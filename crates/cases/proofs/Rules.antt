@@ -1,6 +1,5 @@
--- The rules of the stripes that are run, as the loops use them. In order: the digest, a byte further; a node's bit; old bytes; the helpers; a byte that a loop
--- leaves as it is.
-use mathlib.Core.Path.{_≡_, refl, sym, ap, _∙_}
+-- The rules of the stripes that are run, as the loops use them. In order: the digest, a byte further; a node's bit; old bytes; the helpers.
+use mathlib.Core.Path.{_≡_, refl, ap, _∙_}
 use mathlib.Core.Bool.{Bool, true, false, cond}
 use mathlib.Core.List.{List}
 use Prim.Native.Nat.{ℕ, suc, _+_, _-_, _*_, _/_, _%_, _^_, _≤_, _<_}
@@ -8,11 +7,9 @@ use native.Mathlib.Numerals.{add-one}
 use native.Mathlib.Omega.{arith}
 use lib.Dec.{eqb, ltb}
 use lib.ListN.{getD}
-use borrow.Author.Count.{below-more}
 use borrow.Author.Tests.{le-ltb, ltb-true}
 use Rattle.rules.specs.Lost.{isLost}
 use Rattle.rules.proofs.Ties.{is-lost-suc}
-use Rattle.columns.proofs.Kernels.{Stored, written-here}
 use Rattle.cases.specs.Promise.{byteFor, oldByte, helperAt, digestTo}
 
 digest-suc : (xs : List ℕ) (i : ℕ) → digestTo xs (suc i) ≡ (digestTo xs i * 31 + getD xs i 0) % 65521
@@ -43,12 +40,3 @@ helper-in failed j n most h = pick (ltb (j + 1) failed) (ltb-true (j + 1) failed
     pick : (b : Bool) → (b ≡ true → j + 1 < failed) → (1 ≤ cond b (j + 1) (j + 2)) × (cond b (j + 1) (j + 2) ≤ n)
     pick true k = (omega arith, omega (arith, k refl))
     pick false k = (omega arith, omega arith)
-
--- a byte that is to stay as it is counts as written
-pub written-skip : {new : ℕ → ℕ} {j : ℕ} {before later : List ℕ} → Stored 0 new j before later → new j ≡ getD before j 0 → Stored 0 new (j + 1) before later
-written-skip {new} {j} {before} {later} written e =
-    record {
-      same-length = written .same-length;
-      done = below-more (λ k. getD later k 0 ≡ new k) j (written .done) (written-here written ∙ sym e);
-      kept = λ k h. written .kept k (omega arith);
-    }

@@ -8,13 +8,13 @@ use crate::printing::outcome;
 use crate::printing::tested;
 use crate::printing::text;
 use check::same;
-use field::mul;
 use fill::fill;
 use fill::fill_parity;
 use rebuild::rebuild;
 use rules::Shape;
 use rules::measure;
 use sums::test;
+use tables::mul;
 use yebarg::cut;
 
 // Bench stripe C, which is whole.

@@ -1,8 +1,8 @@
 // What came out, in words and decimal numbers, on standard output. Words and numbers have a space before them, but for the first of a line.
-use field::Quotient;
 use libc::STDOUT_FILENO;
 use rules::Measured;
 use sums::Tested;
+use tables::Quotient;
 use yebarg::Outcome;
 
 // The words as they are.

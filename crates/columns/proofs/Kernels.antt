@@ -1,5 +1,5 @@
--- Loops over bytes. In order: what holds of a list after j entries of it are written, from the front; before the first; an entry more; the end; sizes of
--- products, and of the index of an entry among columns that stand end to end.
+-- Loops over bytes. In order: what holds of a list after j entries of it are written, from the front; before the first; an entry more; one left as it
+-- was; the end; sizes of products, and of the index of an entry among columns that stand end to end.
 --   Stored blank new j before later == below j later has the entries that `new` gives, from j on those of before; `blank` stands past the end of a list
 --   Written new j before later == the same of bytes, with 0 past the end
 -- Assumes nothing.
@@ -44,6 +44,14 @@ module _ {A : Type 0} {blank : A} {new : ℕ → A} {j : ℕ} {before later : Li
             (getD-set-same later j x blank (written-below h) ∙ e);
         kept = λ k hk. getD-set-other later j k x blank (λ q. omega arith) ∙ written .kept k (omega arith);
       }
+
+  -- the entry at j is left as it was
+  pub written-skip : getD before j blank ≡ new j → Stored blank new (j + 1) before later
+  written-skip e = record {
+    same-length = written .same-length;
+    done = below-more (λ k. getD later k blank ≡ new k) j (written .done) (written-here ∙ e);
+    kept = λ k h. written .kept k (omega (arith, h));
+  }
 
   pub written-whole : length before ≤ j → (k : ℕ) → k < length before → getD later k blank ≡ new k
   written-whole h k hk = written .done k (omega arith)

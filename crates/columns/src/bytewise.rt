@@ -22,10 +22,26 @@ pub fn lesser(a: usize, b: usize) -> usize
     a
 }
 
+// Adds each byte of `from` to the byte of `to` at the same index: `add_multiple` by 1.
+fn add_plain(to: &mut [u8], from: &[u8])
+    ensures { λ _. ⌜ Multiplied 1 (now (from .entry)) (now (to .entry)) (now (to .exit)) ⌝ }
+{
+    let size = lesser(to.len(), from.len());
+    let mut j = 0;
+    while j < size {
+        to[j] = to[j] ^ from[j];
+        j = j + 1;
+    }
+}
+
 // Adds c times each byte of `from` to the byte of `to` at the same index. A byte that `from` doesn't have counts as 0.
 pub fn add_multiple(to: &mut [u8], from: &[u8], c: u8)
     ensures { λ _. ⌜ Multiplied c (now (from .entry)) (now (to .entry)) (now (to .exit)) ⌝ }
 {
+    if c == 1 {
+        add_plain(to, from);
+        return;
+    }
     let size = lesser(to.len(), from.len());
     let mut j = 0;
     while j < size {

@@ -21,6 +21,7 @@ use Rattle.rules.specs.Equation.{Whole}
 use Rattle.rules.specs.Lost.{isLost, lostCount, bitAbove, isParity, Filled}
 use Rattle.rules.specs.Refusal.{firstOf, _given-when_, shapeRefusal}
 use Rattle.rules.proofs.Accepted.{Bounds, bounds}
+use Rattle.rules.proofs.Checks.{none-left}
 use Rattle.rules.proofs.LostSets.{below-lost, lostAmong, lost-among, among-same, parity-among}
 use Rattle.rules.proofs.Fillings.{OnNodes, filled-only, filled-same-survivors, filled-same-set, filled-plus, filled-times}
 use Rattle.rules.proofs.Layouts.{column-room, column-length, symbol-column}
@@ -35,7 +36,7 @@ use Rattle.yebarg.specs.Refusal.{readBackRefusal}
 use Rattle.yebarg.specs.Promise.{LayMeets, CutMeets}
 use Rattle.yebarg.proofs.Refusals.{a-node, cut-accepted, lay-taken, read-back-accepted, accepted-writes}
 use Rattle.yebarg.proofs.Laying.{read-back-after-lay}
-use Rattle.yebarg.proofs.Lengths.{stripe-most, data-most}
+use Rattle.rules.proofs.Lengths.{stripe-most, data-most}
 use Rattle.yebarg.proofs.Settled.{refusal-only}
 use Rattle.rebuild.specs.Refusal.{rebuildRefusal}
 use Rattle.rebuild.specs.Promise.{RebuildMeets}
@@ -61,11 +62,8 @@ not-refused answer e = ap refusal e
 module _ (sh : Shape) (lost : ℕ) (stripe : List ℕ) (answer : Outcome) (later : List ℕ) (p : FillMeets sh lost stripe answer later) where
   -- what is accepted has passed the checks
   pub accepted-taken : answer ≡ Done → fillRefusal sh lost stripe ≡ none
-  accepted-taken e = go (fillRefusal sh lost stripe) refl
-    where
-      go : (z : Option ℕ) → fillRefusal sh lost stripe ≡ z → fillRefusal sh lost stripe ≡ none
-      go none t = t
-      go (some q) t = absurd (Option·none-ne-some q (sym (not-refused answer e) ∙ p .refused q t))
+  accepted-taken e =
+      none-left (fillRefusal sh lost stripe) (λ q t. Option·none-ne-some q (sym (not-refused answer e) ∙ p .refused q t))
 
   pub accepted-filled : answer ≡ Done → Filled sh (isLost lost) stripe later
   accepted-filled e = p .filled (accepted-taken e) (not-refused answer e)

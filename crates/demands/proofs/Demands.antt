@@ -33,9 +33,11 @@ use Rattle.sums.specs.declared.answers.Tested.the-variants as tests
 use Rattle.yebarg.specs.Answer.{refusal}
 use Rattle.sums.specs.Answer.{refusalOfTest}
 use Rattle.yebarg.specs.Refusal.{layRefusal, readBackRefusal, cutRefusal}
-use Rattle.sums.specs.Refusal.{testRefusal, sumsRefusal, addRefusal}
+use Rattle.sums.specs.Refusal.{testRefusal, sumsRefusal}
+use Rattle.fractions.specs.Refusal.{addRefusal}
 use Rattle.yebarg.specs.Promise.{LayMeets, ReadBackMeets, CutMeets}
-use Rattle.sums.specs.Promise.{TestMeets, SumsMeet, AddMeets}
+use Rattle.sums.specs.Promise.{TestMeets, SumsMeet}
+use Rattle.fractions.specs.Promise.{AddMeets}
 use Rattle.sums.proofs.Refusals.{test-accepted}
 use Rattle.sums.proofs.Settled.{test-whole-exactly}
 use Rattle.rebuild.specs.Refusal.{rebuildRefusal}
@@ -46,9 +48,9 @@ use Rattle.fill.proofs.Taken.{FillTaken, fill-taken, taken→fill, taken→pari
 use Rattle.layout.specs.declared.answers.Layout.{Layout}
 use Rattle.pack.specs.declared.answers.Unpacked.{Unpacked}
 use Rattle.pack.specs.declared.answers.Unpacked.the-variants as packs
-use Rattle.layout.specs.Pack.{others, columnsOf, packed}
+use Rattle.entries.specs.Pack.{others, columnsOf, packed}
 use Rattle.pack.specs.Refusal.{stripeMost}
-use Rattle.layout.specs.Refusal.{layoutRefusal}
+use Rattle.entries.specs.Refusal.{layoutRefusal}
 use Rattle.pack.specs.Refusal.{readRefusal}
 use Rattle.layout.specs.Answer.{refusalOfLayout}
 use Rattle.pack.specs.Answer.{refusalOfRead}

@@ -5,11 +5,11 @@
 --   Product    == products: a commutative ring; the product by eight bits
 --   Printed    == the product is the printed one
 --   Division   == the printed one is a remainder of a division
---   Lists      == the powers of 2 and their logarithms as computed lists, which the tables are
+--   Lists      == the powers of 2 and their logarithms as computed lists, which the tables of crate `tables` are
 --   Inverses   == inverses, by one computed test
 --   Numbers    == the instance of theory's field
 --   Powers     == powers: theory's laws at that field
---   Logarithms == the powers of 2 are all the non-zero numbers, each once; exponents wrap; quotients
+--   Logarithms == the powers of 2 are all the non-zero numbers, each once; exponents wrap
 --   Lawful     == a code that meets what theory assumes
 --   Settled    == each promise settles its result; wrong answers ruled out
 pub mod Xor

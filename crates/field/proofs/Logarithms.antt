@@ -1,11 +1,10 @@
 -- The logarithms to base 2, as the lists of `Lists` have them: the rule of each list holds at each entry. In order: the powers; the logarithms, by one
 -- computed test over the list for each part of their rule; the 255 powers of 2 are all the non-zero numbers, each once; exponents wrap at
--- 255; powers and quotients by logarithms.
+-- 255. Not here: powers and quotients by logarithms, which are in crate `tables`.
 use mathlib.Core.Path.{_≡_, sym, ap, _∙_}
 use mathlib.Core.Bool.{Bool}
 use mathlib.Core.List.{List}
-use Prim.Native.Nat.{ℕ, zero, suc, _+_, _-_, _*_, _/_, _%_, _<_, _≤_}
-use native.Mathlib.Nat as N
+use Prim.Native.Nat.{ℕ, zero, suc, _+_, _*_, _/_, _%_, _<_}
 use native.Mathlib.Omega.{arith}
 use lib.Dec.{T, eqb, ltb, eqb→eq, ltb→lt}
 use lib.ListN.{getD}
@@ -96,24 +95,3 @@ power-not-zero t z =
     let one : mul (power 2 t) (power 2 (254 * t)) ≡ 1 = sym (power-add 2 t (254 * t)) ∙ ap (power 2) e ∙ turns t in
     let none : mul (power 2 t) (power 2 (254 * t)) ≡ 0 = rw z (zero-mul (power 2 (254 * t))) in
     omega arith
-
--- a power by the logarithm: what `power` computes
-pub power-by-log : (l t : ℕ) → power 2 (l * (t % 255) % 255) ≡ power (power 2 l) t
-power-by-log l t =
-    power-wrap (l * (t % 255))
-    ∙ ap (power 2) (N.mul-comm l (t % 255))
-    ∙ sym (power-power 2 (t % 255) l)
-    ∙ ap (λ x. power x l) (power-wrap t)
-    ∙ power-power 2 t l
-    ∙ ap (power 2) (N.mul-comm t l)
-    ∙ sym (power-power 2 l t)
-
--- a quotient by the logarithms: what `divide` computes
-pub quotient-by-logs : (l k : ℕ) → k ≤ 255 → mul (power 2 (l + 255 - k)) (power 2 k) ≡ power 2 l
-quotient-by-logs l k h =
-    let e : l + 255 - k + k ≡ l + 255 = omega arith in
-    sym (power-add 2 (l + 255 - k) k)
-    ∙ ap (power 2) e
-    ∙ power-add 2 l 255
-    ∙ ap (mul (power 2 l)) power-turn
-    ∙ mul-one (power 2 l) (power-below 2 l)

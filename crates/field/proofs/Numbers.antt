@@ -14,8 +14,7 @@ use native.Mathlib.Omega.{arith}
 use Rattle.theory.specs.Field.{Field}
 use Rattle.theory.specs.Power as theory
 use Rattle.theory.proofs.Ring.{mul-cancel-right}
-use Rattle.field.specs.Number.{add, mul, power}
-use Rattle.field.specs.Promise.{Divided}
+use Rattle.field.specs.Number.{add, mul, power, Divided}
 use Rattle.field.proofs.Xor.{add-assoc, add-comm, add-zero, add-self, add-below, add-mod}
 use Rattle.field.proofs.Product.{mul-below, mul-assoc, mul-comm, mul-one, mul-add, mul-low, low-mul}
 use Rattle.field.proofs.Inverses.{inverse, inverse-below, mul-inverse}
@@ -133,7 +132,7 @@ mul-cancel a b c ha hb h k e =
     number-injective a b ha hb
     (mul-cancel-right numbers (number c) (number-not-zero c h k) (sym (number-mul a c) ∙ ap number e ∙ number-mul b c))
 
--- what `divide` answers, in the field's words
+-- a quotient, in the field's words
 pub number-quotient : (a b q : ℕ) → b < 256 → Divided a b q → number q ≡ numbers .mul (number a) (numbers .inverse (number b))
 number-quotient a b q h d =
     sym (numbers .mul-one (number q))

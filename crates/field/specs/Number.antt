@@ -6,8 +6,10 @@
 --   byBits k x b == the sum, over the bits i < k of b that are set, of x doubled i times
 --   mul a b    == the product. It reads the low eight bits of a and of b
 --   power a t  == a to the power t
+--   Divided a b q == q is the quotient of a and b, which isn't 0: the number whose product with b is a
 -- This is the working definition of the product. `Polynomial` has the printed one, and `product-agrees` says that they are the same.
-use Prim.Native.Nat.{ℕ, zero, suc, _*_, _/_, _%_}
+use mathlib.Core.Path.{_≡_}
+use Prim.Native.Nat.{ℕ, zero, suc, _*_, _/_, _%_, _<_}
 use lib.Bits.{bitXor}
 
 unfoldable pub modulus : ℕ
@@ -29,3 +31,8 @@ mul a b = byBits 8 (a % 256) b
 unfoldable pub power : ℕ → ℕ → ℕ
 power a zero = 1
 power a (suc t) = mul (power a t) a
+
+pub record Divided (a b q : ℕ) : Type 0 where
+  pub divisor : 0 < b
+  pub small : q < 256
+  pub value : mul q b ≡ a

@@ -25,9 +25,11 @@ use Rattle.rules.proofs.House.{code, stripe, house-lawful}
 use Rattle.rules.proofs.Ties.{symbol-phantom, whole-tie}
 use Rattle.rules.proofs.Stripes.{symbol-at}
 use Rattle.rules.proofs.Fillings.{filled→fills, fills→filled}
-use Rattle.levels.specs.Promise.{chosen, NoneFrom, LevelsCorrected}
+use Rattle.corrections.specs.Correction.{chosen}
+use Rattle.levels.specs.Promise.{NoneFrom, LevelsCorrected}
 use Rattle.levels.proofs.Nodes.{real-chosen}
-use Rattle.fill.specs.Kernel.{OthersAre, Copied, Standing, FilledOne}
+use Rattle.lost.specs.Promise.{OthersAre, Copied}
+use Rattle.fill.specs.Kernel.{Standing, FilledOne}
 
 module _ (sh : Shape) (b : Bounds sh) (flags : List Bool) (none : NoneFrom (sh .n) flags) where
   abbrev set : ℕ → Bool

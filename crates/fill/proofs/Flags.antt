@@ -1,44 +1,30 @@
--- Laws of flags. In order: flags written to the end are those of a set; no flag from n on, and the count below n; both for a lost set and for parity.
--- Assumes nothing.
+-- Laws of flags: no flag from n on, and the count below n. In order: for any set; for a lost set; for parity. What holds of each flag by itself is in crate
+-- `lost`. Assumes nothing.
 use mathlib.Core.Path.{_≡_, refl, ap, ap₂, _∙_}
 use mathlib.Core.List.{List}
-use mathlib.Core.Bool.{Bool, true, false, not, _&&_, and-false}
+use mathlib.Core.Bool.{Bool, true, false, _&&_, and-false}
 use Prim.Native.Nat.{ℕ, suc, _+_, _/_, _^_, _≤_, _<_}
 use native.Mathlib.Nat.{pow-le-pow-right}
 use native.Mathlib.Omega.{arith}
 use lib.Dec.{leb, ltb}
-use lib.ListN.{length, List·getD-eq-default}
-use borrow.Author.Tests.{lt-ltb, le-ltb, le-leb, lt-leb, ltb-true, ltb-false}
+use borrow.Author.Tests.{lt-ltb, le-leb, lt-leb, ltb-true, ltb-false}
 use Rattle.theory.specs.Set.{count}
 use Rattle.theory.proofs.Counts.{count-ext, count-none, count-all, count-split}
 use Rattle.rules.specs.Lost.{isLost, lostCount}
 use Rattle.rules.proofs.Ties.{lost-tie}
 use Rattle.rules.proofs.LostSets.{bits-below, lost-beyond}
-use Rattle.columns.proofs.Kernels.{Stored, written-whole}
-use Rattle.levels.specs.Promise.{chosen, NoneFrom}
-use Rattle.fill.specs.Kernel.{FlagsAre, OthersAre}
-
--- sixteen flags written
-module _ {i : ℕ} {before later : List Bool} (all : length before ≡ 16) (end : 16 ≤ i) where
-  pub flags-written : (L : ℕ → Bool) → Stored false (λ j. L (suc j)) i before later → FlagsAre L later
-  flags-written L written =
-      record { all = written .same-length ∙ all; each = λ j h. written-whole written (omega arith) j (omega arith) }
-
-  pub others-written : (flags : List Bool) → Stored false (λ j. not (chosen flags j)) i before later → OthersAre flags later
-  others-written flags written =
-      record { all = written .same-length ∙ all; each = λ j h. written-whole written (omega arith) j (omega arith) }
+use Rattle.corrections.specs.Correction.{chosen}
+use Rattle.levels.specs.Promise.{NoneFrom}
+use Rattle.lost.specs.Promise.{FlagsAre}
+use Rattle.lost.proofs.Flagged.{flags-beyond, before-parity}
 
 module _ {L : ℕ → Bool} {flags : List Bool} (are : FlagsAre L flags) where
-  -- a node from 16 on has no flag
-  pub flags-beyond : (i : ℕ) → 16 ≤ i → chosen flags i ≡ false
-  flags-beyond i h = List·getD-eq-default flags false (omega (arith, are .all))
-
   pub flags-none : (n : ℕ) → ((i : ℕ) → n ≤ i → L (suc i) ≡ false) → NoneFrom n flags
   flags-none n none i h = go (ltb i 16) refl
     where
       go : (b : Bool) → ltb i 16 ≡ b → chosen flags i ≡ false
       go true e = are .each i (ltb-true i 16 e) ∙ none i h
-      go false e = flags-beyond i (ltb-false i 16 e)
+      go false e = flags-beyond are i (ltb-false i 16 e)
 
   pub flags-count : (n : ℕ) → n ≤ 16 → count n (chosen flags) ≡ count n (λ i. L (suc i))
   flags-count n h = count-ext n _ _ (λ i l. are .each i (omega arith))
@@ -50,10 +36,7 @@ module _ (lost n : ℕ) {flags : List Bool} (are : FlagsAre (isLost lost) flags)
   pub lost-count : n ≤ 16 → count n (chosen flags) ≡ lostCount lost
   lost-count h = flags-count are n h ∙ lost-tie n lost (bits-below n lost none)
 
--- the nodes before parity, of parity, and after it
-pub before-parity : (k n i : ℕ) → i < k → (ltb k (suc i) && leb (suc i) n) ≡ false
-before-parity k n i h = ap (λ b. b && leb (suc i) n) (le-ltb k (suc i) h)
-
+-- the nodes of parity, and after it
 of-parity : (k n i : ℕ) → k ≤ i → i < n → (ltb k (suc i) && leb (suc i) n) ≡ true
 of-parity k n i h l = ap₂ _&&_ (lt-ltb k (suc i) (omega arith)) (le-leb (suc i) n l)
 

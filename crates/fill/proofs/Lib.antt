@@ -1,5 +1,5 @@
 -- Why filling keeps its promises.
---   Flags      == flags are a set's, and how many there are
+--   Flags      == no flag above n, and how many there are
 --   Taken      == what the checks ask for, and what is then written
 --   Refusals   == from what an entry's tests find to its refusal
 --   Attempts   == one stripe filled in scratch: what is written, or that nothing fills it

@@ -1,10 +1,10 @@
 -- What isn't refused with 1 to 4 has passed every check, and the other way round. In order: `fill`; `fill_parity`; what a fill has then to answer and to write,
 -- where something fills the stripe.
 --   FillTaken sh lost stripe == what the checks of `fill` ask for
-use mathlib.Core.Path.{_≡_, refl}
+use mathlib.Core.Path.{_≡_}
 use mathlib.Core.Bool.{false, not}
 use mathlib.Core.List.{List, [], _∷_}
-use mathlib.Core.Option.{Option, none, some}
+use mathlib.Core.Option.{none}
 use Prim.Native.Nat.{ℕ, _≤_}
 use native.Mathlib.Omega.{arith}
 use lib.Dec.{eqb, ltb}
@@ -15,7 +15,7 @@ use Rattle.rules.specs.Shape.{accepted}
 use Rattle.rules.specs.Stripe.{stripeLength}
 use Rattle.rules.specs.Lost.{isLost, lostCount, bitAbove, Filled}
 use Rattle.rules.specs.Refusal.{_given-when_, shapeRefusal}
-use Rattle.rules.proofs.Checks.{not-other, none-given}
+use Rattle.rules.proofs.Checks.{not-other, none-given, none-left}
 use Rattle.rules.proofs.Accepted.{bounds, is-accepted, not-refused}
 use Rattle.rules.proofs.LostSets.{lostAmong, lost-among}
 use Rattle.rules.proofs.Fillings.{filled-only}
@@ -71,13 +71,9 @@ module _ (sh : Shape) (stripe : List ℕ) where
 -- where one stripe is filled in, the answer is no refusal and that stripe is what is written
 pub fill-answers : (sh : Shape) (lost : ℕ) (stripe : List ℕ) (answer : Outcome) (later : List ℕ) → fillRefusal sh lost stripe ≡ none
     → FillMeets sh lost stripe answer later → (other : List ℕ) → Filled sh (isLost lost) stripe other → (refusal answer ≡ none) × (later ≡ other)
-fill-answers sh lost stripe answer later taken p other f = (accepts (refusal answer) refl, go (accepts (refusal answer) refl))
-  where
-    accepts : (x : Option ℕ) → refusal answer ≡ x → refusal answer ≡ none
-    accepts none e = e
-    accepts (some q) e = absurd (p .unfillable taken q e .1 other f)
-
-    go : refusal answer ≡ none → later ≡ other
-    go e =
-        filled-only sh (bounds sh (fill-taken sh lost stripe taken .shape)) (isLost lost) (fill-few sh lost stripe taken) stripe later other
-        (p .filled taken e) f
+fill-answers sh lost stripe answer later taken p other f =
+    let accepts = none-left (refusal answer) (λ q e. p .unfillable taken q e .1 other f) in (
+      accepts,
+      filled-only sh (bounds sh (fill-taken sh lost stripe taken .shape)) (isLost lost) (fill-few sh lost stripe taken) stripe later other
+          (p .filled taken accepts) f,
+    )

@@ -1,9 +1,9 @@
 // Filling lost columns, and parity: document 01, "Filling lost columns". Functions of this module that have a `requires` can't be named from outside the crate.
-use crate::copying::copy_columns;
-use crate::lost::flags_of;
-use crate::lost::others_of;
-use crate::lost::parity_flags;
 use levels::fill_levels;
+use lost::copy_columns;
+use lost::flags_of;
+use lost::others_of;
+use lost::parity_flags;
 use rules::Measured;
 use rules::Shape;
 use rules::Sizes;
@@ -17,7 +17,8 @@ ghost use lib.ListN.{length};
 ghost use Rattle.theory.specs.Set.{count as countOf};
 ghost use Rattle.rules.specs.Promise.{SizesAre};
 ghost use Rattle.rules.specs.Stripe.{stripeLength};
-ghost use Rattle.levels.specs.Promise.{chosen, NoneFrom};
+ghost use Rattle.corrections.specs.Correction.{chosen};
+ghost use Rattle.levels.specs.Promise.{NoneFrom};
 ghost use Rattle.fill.specs.Kernel.{Standing, FilledOne};
 ghost use Rattle.fill.specs.Promise.{FillMeets, ParityMeets};
 
@@ -46,9 +47,9 @@ fn fill_one(stripe: &mut [u8], shape: Shape, z: Sizes, flags: [bool; 16], count:
 {
     let end = z.n * z.l;
     let kept = others_of(flags);
+    // No call refuses: the shape is accepted, the lengths are exact, at most r of the n nodes are lost.
     let mut scratch = [0u8; 4096];
     copy_columns(&mut scratch[..end], stripe, kept, z.n, z.l);
-    // It can be filled: the shape is accepted, the length is exact, at most r of the n nodes are lost.
     fill_levels(shape, flags, &mut scratch[..end]);
     let accepted = stands(&scratch[..end], shape, z, count);
     if accepted {

@@ -12,10 +12,11 @@ use borrow.Author.Tests.{ltb-false, le-ltb, ne-eqb}
 use Rattle.rules.specs.Shape.{accepted}
 use Rattle.rules.proofs.Checks.{not-other}
 use Rattle.rules.proofs.Accepted.{bounds, not-refused}
-use Rattle.layout.specs.Pack.{columnsAt, totalOf, largestPack, inputMost, entryAt}
-use Rattle.layout.specs.Parts.{byteAt, numberAt, shapeIn, countIn, totalIn, nodeIn, paddedIn, offsetIn, nodeBefore}
-use Rattle.layout.specs.Refusal.{firstFrom, badEntry, firstBadEntry, wrongTotal, wrongOffset, firstWrongOffset, wrongLength, layoutRefusal}
-use Rattle.layout.proofs.Taken.{from-same, total-most}
+use Rattle.entries.specs.Pack.{columnsAt, totalOf, largestPack, inputMost, entryAt}
+use Rattle.entries.specs.Parts.{byteAt, numberAt, shapeIn, countIn, totalIn, nodeIn, paddedIn, offsetIn, nodeBefore}
+use Rattle.entries.specs.Refusal.{firstFrom, badEntry, firstBadEntry, wrongTotal, wrongOffset, firstWrongOffset, wrongLength, layoutRefusal}
+use Rattle.entries.proofs.Good.{from-same}
+use Rattle.layout.proofs.Taken.{total-most}
 
 -- a check more
 cond-same : (b c : Bool) (q x y : Option ℕ) → b ≡ c → (c ≡ false → x ≡ y) → cond b q x ≡ cond c q y

@@ -23,14 +23,15 @@ use Rattle.rules.proofs.Accepted.{bounds}
 use Rattle.layout.specs.declared.answers.Found.{Found}
 use Rattle.layout.specs.declared.answers.Layout.{Layout}
 use Rattle.layout.specs.declared.answers.Layout.the-variants.{Accepted, Refused}
-use Rattle.layout.specs.Pack.{nodesOf, columnsAt, totalOf, packedNodes, packed, largestPack, inputMost, entryAt}
-use Rattle.layout.specs.Parts.{shapeIn, countIn, nodeIn, nodesIn}
-use Rattle.layout.specs.Refusal.{layoutRefusal}
+use Rattle.entries.specs.Pack.{nodesOf, columnsAt, totalOf, packedNodes, packed, largestPack, inputMost, entryAt}
+use Rattle.entries.specs.Parts.{shapeIn, countIn, nodeIn, nodesIn}
+use Rattle.entries.specs.Refusal.{layoutRefusal}
 use Rattle.layout.specs.Promise.{LayoutIs, LayoutMeets}
-use Rattle.layout.specs.Kernel.{HeldIs}
-use Rattle.layout.proofs.Sets.{Rises, nodes-all, nodes-rise, nodes-few, same-nodes}
-use Rattle.layout.proofs.Positions.{Stands, packed-length, packed-rest, packed-stands, stands-packed}
-use Rattle.layout.proofs.Taken.{LayoutTaken, layout-taken, taken→layout, nodes-in-length, nodes-in-at, total-most}
+use Rattle.entries.specs.Promise.{HeldIs}
+use Rattle.entries.proofs.Sets.{Rises, nodes-all, nodes-rise, nodes-few, same-nodes}
+use Rattle.entries.proofs.Positions.{Stands, packed-length, packed-rest, packed-stands, stands-packed}
+use Rattle.entries.proofs.Good.{nodes-in-length, nodes-in-at}
+use Rattle.layout.proofs.Taken.{LayoutTaken, layout-taken, taken→layout, total-most}
 use Rattle.layout.proofs.Taken.{taken-stands, stands-shape, stands-taken}
 use Rattle.layout.proofs.Excess.{excess-same}
 

@@ -15,9 +15,9 @@ use Rattle.yebarg.specs.Refusal.{notNode}
 use Rattle.layout.specs.declared.answers.Found.{Found}
 use Rattle.layout.specs.declared.answers.Layout.{Layout}
 use Rattle.layout.specs.declared.answers.Layout.the-variants.{Accepted, Refused}
-use Rattle.layout.specs.Pack.{nodesOf, columnsAt, offsetOf, totalOf, entryAt}
-use Rattle.layout.specs.Parts.{numberAt, totalIn, nodeIn, paddedIn, offsetIn, nodeBefore}
-use Rattle.layout.specs.Refusal.{firstFrom, badEntry, firstBadEntry, wrongTotal, wrongOffset, firstWrongOffset, wrongLength, layoutRefusal}
+use Rattle.entries.specs.Pack.{nodesOf, columnsAt, offsetOf, totalOf, entryAt}
+use Rattle.entries.specs.Parts.{numberAt, totalIn, nodeIn, paddedIn, offsetIn, nodeBefore}
+use Rattle.entries.specs.Refusal.{firstFrom, badEntry, firstBadEntry, wrongTotal, wrongOffset, firstWrongOffset, wrongLength, layoutRefusal}
 use Rattle.layout.specs.Answer.{refusalOfLayout}
 use Rattle.layout.specs.Promise.{LayoutMeets}
 use Rattle.layout.proofs.Packs.{layout-only}

@@ -12,7 +12,7 @@ use Rattle.rules.specs.Bench.{shape}
 use Rattle.layout.specs.declared.answers.Found.{Found}
 use Rattle.layout.specs.declared.answers.Layout.{Layout}
 use Rattle.layout.specs.declared.answers.Layout.the-variants.{Accepted}
-use Rattle.layout.specs.Pack.{nodesOf, fourBytes, columnsAt, offsetOf, totalOf, header, entry, entriesFrom, packedNodes, packed, entryAt}
+use Rattle.entries.specs.Pack.{nodesOf, fourBytes, columnsAt, offsetOf, totalOf, header, entry, entriesFrom, packedNodes, packed, entryAt}
 use Rattle.layout.specs.Promise.{LayoutIs, LayoutMeets}
 use Rattle.layout.proofs.Packs.{foundIn, layout-only, IsPack, pack→layout, content-answered}
 

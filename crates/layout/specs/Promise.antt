@@ -12,8 +12,8 @@ use Rattle.rules.specs.Refusal.{shapeRefusal}
 use Rattle.layout.specs.declared.answers.Found.{Found}
 use Rattle.layout.specs.declared.answers.Layout.{Layout}
 use Rattle.layout.specs.declared.answers.Layout.the-variants as layout
-use Rattle.layout.specs.Pack.{nodesOf, columnsAt, totalOf, packed}
-use Rattle.layout.specs.Refusal.{layoutRefusal}
+use Rattle.entries.specs.Pack.{nodesOf, columnsAt, totalOf, packed}
+use Rattle.entries.specs.Refusal.{layoutRefusal}
 use Rattle.layout.specs.Answer.{refusalOfLayout}
 
 pub record LayoutIs (pack : List ℕ) (found : Found) : Type 0 where

@@ -1,13 +1,13 @@
 // Reading the layout of a pack: all checks but whether its columns can be filled.
 use crate::answers::Found;
 use crate::answers::Layout;
-use crate::entries::ENTRY;
-use crate::entries::HEADER;
-use crate::entries::first_bad_entry;
-use crate::entries::held_of;
-use crate::totals::first_wrong_offset;
-use crate::totals::wrong_length;
-use crate::totals::wrong_total;
+use entries::ENTRY;
+use entries::HEADER;
+use entries::first_bad_entry;
+use entries::held_of;
+use offsets::first_wrong_offset;
+use offsets::wrong_length;
+use offsets::wrong_total;
 use rules::Measured;
 use rules::Shape;
 use rules::measure;

@@ -1,13 +1,9 @@
-// The pack file: document 01, "The pack file". Reading its layout.
+// Reading the layout of a pack: document 01, "The pack file".
 //
 // The entry takes every input and ends: it has no `requires`. A pack that isn't well formed is refused with a number, in the pack reader's own order. What
-// the entry promises is a record of specs/Promise.antt; the pack is defined in specs/Pack.antt. (Functions with a `requires` stand in the private modules
-// `entries`, `numbers` and `totals`: none can be named from outside.)
+// the entry promises is a record of specs/Promise.antt; the pack and its refusals are defined in crate `entries`.
 mod answers;
-mod entries;
 mod layouts;
-mod numbers;
-mod totals;
 
 // What reading the layout answers.
 pub use answers::Found;

@@ -5,15 +5,14 @@ use mathlib.Core.List.{List}
 use Prim.Native.Nat.{ℕ, suc, _-_, _≤_, _<_}
 use native.Mathlib.Decide.{decLe}
 use native.Mathlib.Omega.{arith}
-use lib.ListN.{length, List·getD-eq-default}
+use lib.ListN.{length}
 use Rattle.theory.specs.Set.{count}
 use Rattle.theory.proofs.Counts.{count-suc, count-up}
 use Rattle.rules.specs.declared.shapes.Shape.{Shape}
 use Rattle.rules.proofs.LostSets.{real, real-in, real-out}
-use Rattle.levels.specs.Promise.{chosen, NoneFrom}
-
-beyond : (flags : List Bool) (i : ℕ) → length flags ≤ i → chosen flags i ≡ false
-beyond flags i h = List·getD-eq-default flags false h
+use Rattle.corrections.specs.Correction.{chosen}
+use Rattle.choices.proofs.Counting.{beyond}
+use Rattle.levels.specs.Promise.{NoneFrom}
 
 module _ (n : ℕ) (flags : List Bool) (all : length flags ≡ 16) where
   pub none-from : count 16 (chosen flags) ≤ count n (chosen flags) → NoneFrom n flags

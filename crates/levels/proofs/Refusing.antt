@@ -6,7 +6,8 @@ use Prim.Native.Nat.{ℕ}
 use Rattle.theory.specs.Set.{count}
 use Rattle.rules.specs.declared.shapes.Shape.{Shape}
 use Rattle.rules.specs.Stripe.{IsBytes, stripeLength}
-use Rattle.levels.specs.Promise.{chosen, LevelsCorrected, Fillable, LevelsAre}
+use Rattle.corrections.specs.Correction.{chosen}
+use Rattle.levels.specs.Promise.{LevelsCorrected, Fillable, LevelsAre}
 
 module _ (sh : Shape) (flags : List Bool) (before : List ℕ) where
   pub cannot-fill : (Fillable sh flags before → ⊥) → LevelsAre sh flags before false before

@@ -26,7 +26,8 @@ use Rattle.rules.proofs.LostSets.{real}
 use Rattle.rules.proofs.Stripes.{same-stripes}
 use Rattle.rules.proofs.Fillings.{filled→fills}
 use Rattle.rules.proofs.Benches.{parity-C, bench-shape}
-use Rattle.levels.specs.Promise.{chosen, NoneFrom, LevelsCorrected, Fillable, LevelsAre}
+use Rattle.corrections.specs.Correction.{chosen}
+use Rattle.levels.specs.Promise.{NoneFrom, LevelsCorrected, Fillable, LevelsAre}
 use Rattle.levels.proofs.Nodes.{real-chosen}
 use Rattle.levels.proofs.Refusing.{can-fill}
 

@@ -31,7 +31,7 @@ use Rattle.field.proofs.Numbers.{numbers, number, number-one, number-add, numbe
 use Rattle.rules.specs.declared.shapes.Shape.{Shape}
 use Rattle.rules.specs.declared.shapes.Sizes.{Sizes}
 use Rattle.rules.specs.Shape.{groupSize, groups, rows, digit, withDigit}
-use Rattle.rules.specs.Point.{γ}
+use Rattle.rules.specs.Point.{pointOf, γ}
 use Rattle.rules.specs.Stripe.{Symbols, symbol}
 use Rattle.rules.specs.Equation.{equation}
 use Rattle.rules.specs.Promise.{SizesAre}
@@ -41,11 +41,14 @@ use Rattle.rules.proofs.House.{code, stripe, points-distinct}
 use Rattle.rules.proofs.Stripes.{symbol-at}
 use Rattle.rules.proofs.Ties.{digit-tie, with-digit-tie, symbol-phantom, sum-tie, equation-tie}
 use Rattle.columns.proofs.Kernels.{entry-within}
-use Rattle.solver.specs.Solve.{Apart, Solved}
-use Rattle.solver.specs.Solve as solves
+use Rattle.distinct.specs.Promise.{Apart}
+use Rattle.systems.specs.System as solves
+use Rattle.solver.specs.Solve.{columnsAt, Solved}
 use Rattle.sums.specs.Promise.{SumsOf}
-use Rattle.levels.specs.Promise.{chosen, NoneFrom}
-use Rattle.levels.specs.Kernel.{correctionBy, correctionIn, ColumnsCorrected, Placed, PointsAre, ScoresAre, LevelCorrected, bytesAt}
+use Rattle.corrections.specs.Correction.{chosen, correctionBy, correctionIn, ColumnsCorrected}
+use Rattle.levels.specs.Promise.{NoneFrom}
+use Rattle.choices.specs.Promise.{PointsAre, ScoresAre}
+use Rattle.levels.specs.Kernel.{Placed, LevelCorrected, bytesAt}
 
 -- the number whose product with a byte is 1 is its inverse
 inverse-is : (a q : ℕ) → 0 < a → a < 256 → q < 256 → mul q a ≡ 1 → numbers .inverse (number a) ≡ number q
@@ -199,8 +202,11 @@ module _ (sh : Shape) (b : Bounds sh) (flags : List Bool) (nodes : List ℕ) (co
         arith,
         points-distinct sh (suc (getD nodes i 0)) (suc (getD nodes j 0)) (omega arith) (omega (arith, lists .below i hi, nodes-most sh b)) (omega arith)
             (omega (arith, lists .below j hj, nodes-most sh b))
-            (sym (are .each i (omega (arith, hi, few))) ∙ e ∙ are .each j (omega (arith, hj, few))),
+            (sym (point i hi) ∙ e ∙ point j hj),
       ))
+    where
+      point : (j : ℕ) → j < count → getD points j 0 ≡ pointOf sh (suc (getD nodes j 0))
+      point j h = are .inside j (omega (arith, h, few)) (omega (arith, lists .below j h, nodes-most sh b))
 
 -- The columns of unknowns that solve the sums, each put at its node, make up for the equations: at every row, whatever its score.
 module _ (sh : Shape) (b : Bounds sh) (flags : List Bool) (nodes points : List ℕ) (C : Symbols) (count : ℕ) (sums found before short : List ℕ)
@@ -213,12 +219,12 @@ module _ (sh : Shape) (b : Bounds sh) (flags : List Bool) (nodes points : List �
   -- the sum that is solved, term by term
   solved-terms : (a t : ℕ) → a < rows sh
       → moment numbers count (λ j. code sh .point (getD nodes j 0)) (λ j. bytesAt sh short (getD nodes j 0) a) t
-      ≡ number (solves.moment count points (solves.columnsAt (rows sh) found a) t)
+      ≡ number (solves.moment count points (columnsAt (rows sh) found a) t)
   unfolding moment solves.moment
   solved-terms a t ha =
       sum-ext numbers count _ _
       (λ j h.
-      ap₂ (λ p x. numbers .mul (power numbers (number p) t) (number x)) (sym (are .each j (omega (arith, h, few, b .r-most)))) (placed .each j a h ha)
+      ap₂ (λ p x. numbers .mul (power numbers (number p) t) (number x)) (sym (are .inside j (omega (arith, h, few, b .r-most)) (omega (arith, lists .below j h, nodes-most sh b)))) (placed .each j a h ha)
       ∙ ap (λ q. numbers .mul q (number (getD found (j * rows sh + a) 0))) (sym (number-power (getD points j 0) t))
       ∙ sym (number-mul _ _))
       ∙ sym (sum-tie count _)

@@ -21,8 +21,10 @@ use Rattle.rules.specs.Shape.{groupSize, groups, rows}
 use Rattle.rules.specs.Stripe.{symbol}
 use Rattle.rules.proofs.Accepted.{Bounds, size-some, nodes-least}
 use Rattle.rules.proofs.House.{code, stripe, house-lawful}
-use Rattle.levels.specs.Promise.{chosen, NoneFrom, LevelsCorrected}
-use Rattle.levels.specs.Kernel.{ScoresAre, AnyAt, LevelCorrected}
+use Rattle.corrections.specs.Correction.{chosen}
+use Rattle.levels.specs.Promise.{NoneFrom, LevelsCorrected}
+use Rattle.choices.specs.Promise.{ScoresAre, AnyIs}
+use Rattle.levels.specs.Kernel.{LevelCorrected}
 
 -- the levels below n are done
 abbrev pub LevelsDone : Shape → List Bool → ℕ → List ℕ → ℕ → List ℕ → Type 0
@@ -40,12 +42,12 @@ module _ (sh : Shape) (b : Bounds sh) (flags : List Bool) (k : ℕ) (before : Li
   )
 
   pub done-none : (n l : ℕ) (scores now : List ℕ) → l ≡ rows sh → ScoresAre (groupSize sh) (groups sh) (rows sh) flags scores → LevelsDone sh flags k before n now
-      → AnyAt (take l scores) n false → LevelsDone sh flags k before (n + 1) now
+      → AnyIs (take l scores) n false → LevelsDone sh flags k before (n + 1) now
   unfolding rows
   done-none n l scores now is-l right (same, level) none = rw (add-one n) (
     same,
     level-empty (code sh) k (chosen flags) (stripe sh (symbol sh before)) n _ level (λ a al e.
-        none a (omega (arith, al, is-l, length-take-le l scores (omega (arith, right .all, is-l, b .l-most))))
+        none .isnt refl a (omega (arith, al, is-l, length-take-le l scores (omega (arith, right .all, is-l, b .l-most))))
         (getD-take l scores a 0 (omega (arith, al, is-l)) ∙ right .each a al ∙ e)),
   )
 

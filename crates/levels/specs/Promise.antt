@@ -1,5 +1,5 @@
--- What `fill_levels` promises, for every input. Nodes count from 0 here, as in `theory`.
---   chosen flags       == the set of the nodes whose flag is set
+-- What `fill_levels` promises, for every input. Nodes count from 0 here, as in `theory`; `chosen`, the set of the nodes whose flag is
+-- set, is in crates/corrections/specs/Correction.antt.
 --   NoneFrom n flags   == no node from n on is chosen
 --   LevelsCorrected sh flags count before later == what fills the chosen columns by as many equations as nodes are chosen, in theory's words (`code` and
 --                         `stripe` carry the rules over: crates/rules/proofs/House.antt)
@@ -10,16 +10,14 @@ use mathlib.Core.Bool.{Bool, true, false}
 use mathlib.Core.List.{List}
 use mathlib.Core.Option.{none}
 use Prim.Native.Nat.{ℕ, _≤_}
-use lib.ListN.{length, getD}
+use lib.ListN.{length}
 use Rattle.theory.specs.Set.{count}
 use Rattle.theory.specs.Whole.{Fills}
 use Rattle.rules.specs.declared.shapes.Shape.{Shape}
 use Rattle.rules.specs.Refusal.{shapeRefusal}
 use Rattle.rules.specs.Stripe.{stripeLength, symbol, IsBytes}
 use Rattle.rules.proofs.House.{code, stripe}
-
-abbrev pub chosen : List Bool → ℕ → Bool
-chosen flags i = getD flags i false
+use Rattle.corrections.specs.Correction.{chosen}
 
 abbrev pub NoneFrom : ℕ → List Bool → Type 0
 NoneFrom n flags = (i : ℕ) → n ≤ i → chosen flags i ≡ false

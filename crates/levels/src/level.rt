@@ -1,11 +1,11 @@
 // Chosen columns filled level by level. Functions of this module that have a `requires` can't be named from outside the crate.
-use crate::chosen::any_at;
-use crate::chosen::count_of;
-use crate::chosen::listed;
-use crate::chosen::points_of;
-use crate::chosen::scores_of;
-use crate::correcting::correct_columns;
-use crate::correcting::place_columns;
+use crate::placing::place_columns;
+use choices::any_at;
+use choices::count_of;
+use choices::listed;
+use choices::points_of;
+use choices::scores_of;
+use corrections::correct_columns;
 use rules::Measured;
 use rules::Shape;
 use rules::Sizes;
@@ -19,8 +19,10 @@ ghost use Rattle.theory.specs.Set.{count as countOf};
 ghost use Rattle.rules.specs.Promise.{SizesAre};
 ghost use Rattle.rules.specs.Stripe.{stripeLength};
 ghost use Rattle.rules.specs.Shape.{groups, groupSize, rows};
-ghost use Rattle.levels.specs.Promise.{chosen, NoneFrom, LevelsCorrected, LevelsAre};
-ghost use Rattle.levels.specs.Kernel.{ListedAre, PointsAre, ScoresAre, LevelCorrected};
+ghost use Rattle.corrections.specs.Correction.{chosen};
+ghost use Rattle.levels.specs.Promise.{NoneFrom, LevelsCorrected, LevelsAre};
+ghost use Rattle.choices.specs.Promise.{ListedAre, PointsAre, ScoresAre};
+ghost use Rattle.levels.specs.Kernel.{LevelCorrected};
 
 // Corrects the lost columns at the rows that have the score asked for: what the sums of the equations are off by is solved for the lost nodes' weights,
 // and their symbols are corrected by it.
@@ -43,7 +45,7 @@ fn correct_level(
 {
     let all = z.r * z.l;
     let end = count * z.l;
-    // Neither call refuses: the shape is accepted, the lengths are exact, and the points differ.
+    // None of the calls refuses: the shape is accepted, the lengths are exact, and the points differ.
     let mut sums = [0u8; 1024];
     sums_of(shape, stripe, &mut sums[..all]);
     let mut found = [0u8; 1024];
@@ -51,7 +53,7 @@ fn correct_level(
     let nodes_end = z.m * z.s * z.l;
     let mut short = [0u8; 4096];
     place_columns(&mut short[..nodes_end], &found[..end], nodes, count, z.l);
-    correct_columns(stripe, &short[..nodes_end], shape, z, flags, &scores, level);
+    correct_columns(shape, flags, &scores, level, &short[..nodes_end], stripe);
 }
 
 // Fills the lost columns by as many equations as there are lost columns: level by level, a row's score being how many groups have the node lost that its
@@ -64,7 +66,7 @@ fn correct_levels(stripe: &mut [u8], shape: Shape, z: Sizes, flags: [bool; 16], 
 {
     let nodes = listed(flags, z.n);
     let points = points_of(shape, nodes);
-    let scores = scores_of(flags, z.s, z.m, z.l);
+    let scores = scores_of(shape, flags);
     let mut level = 0u8;
     while level < 5 {
         if any_at(&scores[..z.l], level) {

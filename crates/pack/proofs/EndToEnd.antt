@@ -11,8 +11,8 @@ use Rattle.rules.specs.Stripe.{stripeLength, column}
 use Rattle.rules.specs.Rising.{Listed}
 use Rattle.rules.proofs.Pieces.{flat-same, flat-each, flat-length}
 use Rattle.rules.proofs.Layouts.{column-length}
-use Rattle.layout.specs.Pack.{has, nodesOf, columnsOf}
-use Rattle.layout.proofs.Sets.{listed-held, held-listed}
+use Rattle.entries.specs.Pack.{has, nodesOf, columnsOf}
+use Rattle.entries.proofs.Sets.{listed-held, held-listed}
 
 module _ (sh : Shape) (set : ℕ) where
   pub columns-same : (x y : List ℕ) → ((i : ℕ) → 1 ≤ i → i ≤ sh .n → has set i ≡ true → column sh x i ≡ column sh y i)

@@ -18,9 +18,9 @@ use Rattle.fill.specs.Promise.{FillMeets}
 use Rattle.fill.proofs.Taken.{taken→fill}
 use Rattle.fill.proofs.Refusals.{fill-many}
 use Rattle.layout.specs.declared.answers.Found.{Found}
-use Rattle.layout.specs.Pack.{others}
+use Rattle.entries.specs.Pack.{others}
 use Rattle.layout.specs.Promise.{LayoutIs}
-use Rattle.layout.proofs.Sets.{others-inside}
+use Rattle.entries.proofs.Sets.{others-inside}
 use Rattle.pack.specs.declared.answers.Unpacked.{Unpacked}
 use Rattle.pack.specs.declared.answers.Unpacked.the-variants.{Accepted, Refused}
 use Rattle.pack.specs.Answer.{refusalOfRead}

@@ -1,5 +1,5 @@
 -- What `read_pack` refuses before it fills. In order: each refusal from what the tests find, and what is owed then; where none is given, at
--- most r nodes are not held; the same of what a pack holds.
+-- most r nodes are not held; the same of what a pack holds; what is accepted has passed, and is read.
 use mathlib.Core.Path.{_≡_, refl, sym, ap, ap₂, _∙_}
 use mathlib.Core.Bool.{cond, not}
 use mathlib.Core.List.{List, [], _∷_, _++_}
@@ -12,17 +12,18 @@ use borrow.Author.Tests.{ltb-false, lt-ltb, le-ltb, eq-eqb, ne-eqb}
 use Rattle.rules.specs.declared.shapes.Shape.{Shape}
 use Rattle.rules.specs.Lost.{lostCount}
 use Rattle.rules.specs.Refusal.{Check, firstOf, _given-when_}
-use Rattle.rules.proofs.Checks.{none-given, first-later, first-earlier}
+use Rattle.rules.proofs.Checks.{none-given, none-left, first-later, first-earlier}
 use Rattle.layout.specs.declared.answers.Found.{Found}
-use Rattle.layout.specs.Pack.{others}
-use Rattle.layout.specs.Parts.{shapeIn, countIn}
-use Rattle.layout.specs.Refusal.{layoutChecks, layoutRefusal}
+use Rattle.entries.specs.Pack.{others}
+use Rattle.entries.specs.Parts.{shapeIn, countIn}
+use Rattle.entries.specs.Refusal.{layoutChecks, layoutRefusal}
 use Rattle.layout.specs.Promise.{LayoutIs}
-use Rattle.layout.proofs.Sets.{others-count}
+use Rattle.entries.proofs.Sets.{others-count}
 use Rattle.layout.proofs.Packs.{found-parts, found-accepted}
-use Rattle.pack.specs.declared.answers.Unpacked.the-variants.{Refused}
+use Rattle.pack.specs.declared.answers.Contents.{Contents}
+use Rattle.pack.specs.declared.answers.Unpacked.the-variants.{Accepted, Refused}
 use Rattle.pack.specs.Refusal.{stripeMost, readRefusal}
-use Rattle.pack.specs.Promise.{ReadMeets}
+use Rattle.pack.specs.Promise.{ReadIs, ReadMeets}
 
 module _ (pack before : List ℕ) where
   -- 4: more than r of the n nodes are not held
@@ -88,3 +89,11 @@ module _ (pack before : List ℕ) (found : Found) (is : LayoutIs pack found) whe
 
     pub found-none : lostCount lost ≤ found .shape .r → readRefusal pack before ≡ none
     found-none h = let (lost-is, r-is) = not-held in read-none pack before room (found-accepted pack found is) (omega (arith, h, lost-is, r-is))
+
+-- what is accepted has passed the checks, and is read
+module _ (pack before : List ℕ) (contents : Contents) (later : List ℕ) (p : ReadMeets pack before (Accepted contents) later) where
+  pub accepted-passes : readRefusal pack before ≡ none
+  accepted-passes = none-left (readRefusal pack before) (λ q e. Option·none-ne-some q (p .refused q e))
+
+  pub accepted-read : ReadIs pack before contents later
+  accepted-read = p .reads accepted-passes contents refl

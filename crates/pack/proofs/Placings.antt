@@ -20,9 +20,9 @@ use Rattle.rules.proofs.Stripes.{symbol-at, same-column}
 use Rattle.columns.proofs.Kernels.{column-within}
 use Rattle.columns.proofs.Parts.{part-length, put-part, column-put-other, column-put-length}
 use Rattle.layout.specs.declared.answers.Found.{Found}
-use Rattle.layout.specs.Pack.{has, nodesOf, columnsOf, totalOf}
+use Rattle.entries.specs.Pack.{has, nodesOf, columnsOf, totalOf}
 use Rattle.layout.specs.Promise.{LayoutIs}
-use Rattle.layout.proofs.Sets.{nodesTo, nodes-all, nodes-start, nodes-take, nodes-skip, listed-to, nodes-up}
+use Rattle.entries.proofs.Sets.{nodesTo, nodes-all, nodes-start, nodes-take, nodes-skip, listed-to, nodes-up}
 use Rattle.pack.specs.Kernel.{Placed}
 
 module _ (sh : Shape) (i : ℕ) (xs : List ℕ) (exact : length xs ≡ stripeLength sh) (inside : i < sh .n) (ys : List ℕ) (same : length ys ≡ rows sh) where

@@ -23,10 +23,10 @@ use Rattle.rules.specs.Bench.{shape, stripeC, stripeJ}
 use Rattle.rules.proofs.Fillings.{filled-wider}
 use Rattle.rules.proofs.Benches.{parity-C, bench-shape}
 use Rattle.fill.proofs.Settled.{nothing-fills-K}
-use Rattle.layout.specs.Pack.{nodesOf, others, columnsOf, fourBytes, entryAt, columnsAt, offsetOf, totalOf, header, entry, entriesFrom, packedNodes}
-use Rattle.layout.specs.Pack.{packed, inputMost}
-use Rattle.layout.specs.Parts.{numberAt, totalIn}
-use Rattle.layout.specs.Refusal.{firstFrom, firstBadEntry, wrongTotal, firstWrongOffset, wrongLength, layoutRefusal}
+use Rattle.entries.specs.Pack.{nodesOf, others, columnsOf, fourBytes, entryAt, columnsAt, offsetOf, totalOf, header, entry, entriesFrom, packedNodes}
+use Rattle.entries.specs.Pack.{packed, inputMost}
+use Rattle.entries.specs.Parts.{numberAt, totalIn}
+use Rattle.entries.specs.Refusal.{firstFrom, firstBadEntry, wrongTotal, firstWrongOffset, wrongLength, layoutRefusal}
 use Rattle.layout.proofs.Packs.{largest-pack, excess-shows}
 use Rattle.layout.proofs.Worked.{worked}
 use Rattle.pack.specs.declared.answers.Contents.{Contents}

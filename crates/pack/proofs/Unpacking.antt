@@ -20,10 +20,10 @@ use Rattle.rules.proofs.Accepted.{bounds}
 use Rattle.rules.proofs.LostSets.{lost-among}
 use Rattle.rules.proofs.Fillings.{filled-only, filled-exists}
 use Rattle.layout.specs.declared.answers.Found.{Found}
-use Rattle.layout.specs.Pack.{has, nodesOf, others, columnsOf, columnsAt, packed, packedNodes, header}
-use Rattle.layout.specs.Parts.{shapeIn}
+use Rattle.entries.specs.Pack.{has, nodesOf, others, columnsOf, columnsAt, packed, packedNodes, header}
+use Rattle.entries.specs.Parts.{shapeIn}
 use Rattle.layout.specs.Promise.{LayoutIs}
-use Rattle.layout.proofs.Sets.{others-inside, others-has, others-others}
+use Rattle.entries.proofs.Sets.{others-inside, others-has, others-others}
 use Rattle.layout.proofs.Packs.{foundIn, layout-only, packed-columns, found-parts, pack→layout}
 use Rattle.pack.specs.declared.answers.Contents.{Contents}
 use Rattle.pack.specs.declared.answers.Unpacked.{Unpacked}

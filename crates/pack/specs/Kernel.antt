@@ -11,7 +11,7 @@ use lib.ListN.{length, drop}
 use Rattle.rules.specs.Stripe.{column}
 use Rattle.rules.specs.Lost.{lostCount}
 use Rattle.layout.specs.declared.answers.Found.{Found}
-use Rattle.layout.specs.Pack.{has, others, columnsOf}
+use Rattle.entries.specs.Pack.{has, others, columnsOf}
 use Rattle.pack.specs.declared.answers.Contents.{Contents}
 use Rattle.pack.specs.declared.answers.Unpacked.{Unpacked}
 use Rattle.pack.specs.declared.answers.Unpacked.the-variants as unpacked

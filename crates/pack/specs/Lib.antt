@@ -1,4 +1,4 @@
--- What reading a pack promises. The pack file is in crate `layout`, the rules of shapes and stripes in crate `rules`.
+-- What reading a pack promises. The pack file is in crate `entries`, the rules of shapes and stripes in crate `rules`.
 --   Refusal == the refusals, in order
 --   Answer  == the number of each case of the answer
 --   Promise == what the entry promises

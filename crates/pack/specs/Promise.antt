@@ -13,7 +13,7 @@ use Rattle.rules.specs.Stripe.{IsBytes, stripeLength}
 use Rattle.rules.specs.Equation.{Whole}
 use Rattle.rules.specs.Lost.{bitAbove}
 use Rattle.rules.specs.Refusal.{shapeRefusal}
-use Rattle.layout.specs.Pack.{others, columnsOf, packed}
+use Rattle.entries.specs.Pack.{others, columnsOf, packed}
 use Rattle.pack.specs.declared.answers.Contents.{Contents}
 use Rattle.pack.specs.declared.answers.Unpacked.{Unpacked}
 use Rattle.pack.specs.declared.answers.Unpacked.the-variants as unpacked

@@ -8,8 +8,8 @@ use Prim.Native.Nat.{ℕ, _-_}
 use lib.Dec.{eqb, ltb}
 use lib.ListN.{length}
 use Rattle.rules.specs.Refusal.{firstOf, _given-when_}
-use Rattle.layout.specs.Parts.{shapeIn, countIn}
-use Rattle.layout.specs.Refusal.{layoutChecks}
+use Rattle.entries.specs.Parts.{shapeIn, countIn}
+use Rattle.entries.specs.Refusal.{layoutChecks}
 
 abbrev pub stripeMost : ℕ
 stripeMost = 4096

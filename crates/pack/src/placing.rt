@@ -6,7 +6,7 @@ ghost use Prim.Native.Nat.{_<_, _^_};
 ghost use lib.ListN.{length};
 ghost use Rattle.rules.specs.Promise.{SizesAre};
 ghost use Rattle.rules.specs.Stripe.{stripeLength};
-ghost use Rattle.layout.specs.Pack.{others};
+ghost use Rattle.entries.specs.Pack.{others};
 ghost use Rattle.layout.specs.Promise.{LayoutIs};
 ghost use Rattle.pack.specs.Kernel.{Placed};
 

@@ -6,7 +6,7 @@ use mathlib.Core.List.{List, []}
 use mathlib.Core.Logic.{_⊎_, inl, inr}
 use Prim.Native.Nat.{ℕ, suc, _+_, _-_, _*_, _<_, _≤_}
 use native.Mathlib.Decide.{ℕ-discrete}
-use native.Mathlib.Nat.{add-sub-cancel-left, div-le-self, mul-le-mul}
+use native.Mathlib.Nat.{add-sub-cancel-left, mul-le-mul}
 use native.Mathlib.Omega.{arith}
 use lib.Dec.{eqb, ltb}
 use lib.ListN.{length, getD, take, drop, replicate}
@@ -18,7 +18,7 @@ use Rattle.field.proofs.Xor.{zero-add, add-zero, add-self, add-below}
 use Rattle.field.proofs.Numbers.{numbers, number, number-add, number-injective}
 use Rattle.rules.specs.declared.shapes.Shape.{Shape}
 use Rattle.rules.specs.Rising.{rising}
-use Rattle.rules.specs.Shape.{groupSize, rows, phantom}
+use Rattle.rules.specs.Shape.{phantom}
 use Rattle.rules.specs.Stripe.{Symbols}
 use Rattle.rules.specs.Equation.{equation}
 use Rattle.rules.specs.Fraction.{isRead, rowsRead, fractionLength, helperBefore, fractionOf, arrived, alone}
@@ -27,9 +27,9 @@ use Rattle.rules.proofs.House.{code, stripe}
 use Rattle.rules.proofs.Ties.{equation-tie, equation-below}
 use Rattle.columns.proofs.Kernels.{entry-within}
 use Rattle.columns.proofs.Parts.{zeros-length, zeros-byte}
-use Rattle.sums.specs.Promise.{Added}
-use Rattle.sums.proofs.Alone.{alone-other}
-use Rattle.sums.proofs.Positions.{lt-or-gt}
+use Rattle.fractions.specs.Promise.{Added}
+use Rattle.fractions.proofs.Alone.{alone-other}
+use Rattle.fractions.proofs.Positions.{lt-or-gt}
 use Rattle.rebuild.specs.Kernel.{gathered, SumsAre}
 
 module _ (sh : Shape) (b : Bounds sh) where
@@ -168,10 +168,6 @@ helper-most f i n f-first f-last first last ne = go (lt-or-gt i f ne)
     go : (i < f) ⊎ (f < i) → suc (cond (ltb i f) (i - 1) (i - 2)) ≤ n - 1
     go (inl l) = rw (lt-ltb i f l) (omega arith)
     go (inr l) = rw (le-ltb i f (omega (arith, l))) (omega arith)
-
-pub fraction-most : (sh : Shape) → Bounds sh → fractionLength sh ≤ 256
-unfolding fractionLength
-fraction-most sh b = omega (arith, div-le-self (rows sh) (groupSize sh), b .l-most)
 
 -- all fractions, however many nodes there are up to 16
 pub fractions-most : (n size : ℕ) → n ≤ 16 → size ≤ 256 → (n - 1) * size ≤ 4096

@@ -1,4 +1,5 @@
--- The refusals of `rebuild`, in document 01's order: shape; fractions, (n − 1) × l / s; column, l; failed node.
+-- The refusals of `rebuild`, in document 01's order.
+--   rebuildRefusal == shape; fractions, (n − 1) × l / s; column, l; failed node
 use mathlib.Core.Bool.{not}
 use mathlib.Core.List.{List, [], _∷_}
 use mathlib.Core.Option.{Option}

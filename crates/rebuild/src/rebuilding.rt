@@ -1,6 +1,6 @@
 // The entry: the column of a failed node from the fractions of all others.
-use crate::solving::solve_rows;
 use crate::summing::add_helpers;
+use recover::solve_rows;
 use rules::Measured;
 use rules::Shape;
 use rules::measure;
@@ -32,6 +32,7 @@ pub fn rebuild(shape: Shape, failed: usize, fractions: &[u8], column: &mut [u8])
     // r sums for each row read; s being r, as many as a column has bytes.
     let mut sums = [0u8; 256];
     add_helpers(&mut sums[..end], fractions, shape, failed, z.n, size);
-    solve_rows(&sums[..end], shape, failed, z, column);
+    // It can be solved: the shape is accepted, the lengths are exact, and there is such a node.
+    solve_rows(&sums[..end], shape, failed, column);
     Outcome::Done
 }

@@ -1,6 +1,6 @@
 // The running sums: what the helpers' fractions bring to the equations of the rows read, helper by helper in rising node order.
+use fractions::add_fraction;
 use rules::Shape;
-use sums::add_fraction;
 ghost use mathlib.Core.Path.{_≡_};
 ghost use mathlib.Core.Option.{none};
 ghost use Prim.Native.Nat.{_≤_, _<_, _+_, _-_, _*_};

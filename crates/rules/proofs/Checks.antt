@@ -1,12 +1,13 @@
 -- What `firstOf` answers: document 01, "the first that applies is given, and none is given otherwise". In order: tests that are joined; what a
--- check for equality says where it doesn't apply; a list that gives none; a list that gives a number; two lists one after the other.
+-- check for equality says where it doesn't apply; a list that gives none; a list that gives a number; two lists one after the other; what gives
+-- no number gives none.
 --   NoneApplies checks == no check of the list applies
 --   FirstIs checks q == some check of the list applies and has the number q, and none that stands before it applies
 use mathlib.Core.Path.{_≡_, refl}
 use mathlib.Core.Bool.{Bool, true, false, cond, not, _&&_, _||_, true≢false, false≢true}
 use mathlib.Core.List.{List, [], _∷_, _++_}
 use mathlib.Core.Logic.{_⊎_, inl, inr}
-use mathlib.Core.Option.{none, some, Option·none-ne-some, Option·some-ne-none}
+use mathlib.Core.Option.{Option, none, some, Option·none-ne-some, Option·some-ne-none}
 use Prim.Native.Nat.{ℕ}
 use lib.Dec.{eqb}
 use borrow.Author.Tests.{eqb-true, not-false}
@@ -66,3 +67,7 @@ first-earlier (check ∷ rest) more q e = go (check .applies) e (first-earlier r
         → cond c (some (check .number)) (firstOf (rest ++ more)) ≡ some q
     go true e ih = e
     go false e ih = ih e
+
+pub none-left : (z : Option ℕ) → ((q : ℕ) → z ≡ some q → ⊥) → z ≡ none
+none-left none no-number = refl
+none-left (some q) no-number = absurd (no-number q refl)

@@ -1,7 +1,7 @@
 -- Document 01, "Shape", sentence by sentence: how nodes, rows and columns are laid out. In order: which shapes the bound on rows bars, how many are
 -- accepted, the largest stripe; nodes by group and place; the digits of a row; phantoms; columns and symbols, data columns.
 --   digitSum sh a m == the ordinary sum, over v = 1 to m, of digit v of row a times what a 1 there counts
--- Not here: what acceptance says, both ways (`Accepted`); a stripe has at most 4,096 bytes (`stripe-most` of crate `yebarg`); group and place of a
+-- Not here: what acceptance says, both ways (`Accepted`); a stripe has at most 4,096 bytes (`stripe-most` of `Lengths`); group and place of a
 -- node, a digit is below s, the digit that is set, phantoms hold 0 (`node-group`, `node-place`, `digit-below`, `digit-set`, `symbol-phantom` of
 -- `Ties`); a group counts from 1 to m (`group-from-1`, `group-all-most` of `RowsRead`).
 use mathlib.Core.Path.{_≡_, refl, sym, ap, ap₂, _∙_}

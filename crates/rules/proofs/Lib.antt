@@ -5,6 +5,7 @@
 --   Risings   == lists of the numbers that pass a test
 --   Pieces    == lists laid end to end
 --   RowsRead  == the rows read in closed form, fractions
+--   Lengths   == lengths and groups of an accepted shape, in the sizes that `measure` gives
 --   House     == the code of theory that a shape is; the points differ
 --   Ties      == the rules are theory's
 --   Layouts   == document 01, "Shape", sentence by sentence
@@ -23,6 +24,7 @@ pub mod Measures
 pub mod Risings
 pub mod Pieces
 pub mod RowsRead
+pub mod Lengths
 pub mod House
 pub mod Ties
 pub mod Layouts

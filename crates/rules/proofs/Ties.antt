@@ -71,7 +71,7 @@ module _ (sh : Shape) where
   node-place (suc v) u h l = rw (node-tie, place-tie) (place-node (groupSize sh) v u l)
 
 -- a digit of a taken off, w being what a 1 there counts
-digit-off : (a w s : ℕ) → a - a / w % s * w ≡ a / (w * s) * (w * s) + a % w
+pub digit-off : (a w s : ℕ) → a - a / w % s * w ≡ a / (w * s) * (w * s) + a % w
 digit-off a w s =
     rw (← div-div-eq-div-mul)
     (omega (arith, div-add-mod' a w, ap (λ (q : ℕ). q * w) (div-add-mod' (a / w) s)))

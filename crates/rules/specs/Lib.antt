@@ -6,7 +6,7 @@
 --   Equation == weights, the equations, whole, the lowest failure
 --   Fraction == rows read, fractions, what a rebuilt column meets
 --   Lost     == the lost set, and what a filled stripe is
---   Refusal  == the first refusal that applies; refusal 1 (the others stand by entry in the entries' crates; 9 in crate `field`)
+--   Refusal  == the first refusal that applies; refusal 1 (the others stand by entry in the entries' crates; 9 in crate `tables`)
 --   Paper    == the equations of Ye and Barg as they print them
 --   Bench    == the bench stripes of document 01 that are proved
 --   Promise  == what each public function of this crate promises

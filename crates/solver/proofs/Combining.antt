@@ -17,9 +17,10 @@ use Rattle.columns.proofs.Kernels.{column-within}
 use Rattle.columns.proofs.Parts.{part-length, part-byte, put-before, put-inside, put-length}
 use Rattle.solver.specs.Solve.{columnsAt}
 use Rattle.columns.specs.Promise.{Cleared}
-use Rattle.solver.specs.Kernel.{entry, combined, Combined, ColumnsAre}
-use Rattle.solver.proofs.Indices.{four}
-use Rattle.solver.proofs.Sums.{sum-zero, sum-suc}
+use Rattle.systems.specs.System.{entry}
+use Rattle.solver.specs.Kernel.{combined, Combined, ColumnsAre}
+use Rattle.distinct.proofs.Indices.{four}
+use Rattle.systems.proofs.Sums.{sum-zero, sum-suc}
 
 pub combined-none : (size : ℕ) (weights : ℕ → ℕ) (sums : List ℕ) (a : ℕ) → combined 0 size weights sums a ≡ 0
 unfolding combined

@@ -1,54 +1,23 @@
 -- What is promised settles what is found: two results that one promise allows are equal, since as many sums of powers as there are points, which differ, have
--- one solution. And wrong answers that the promises rule out. In order: one row; columns, what is answered and how long they are; for
--- each, two unknowns, 7 and 1, at the points 1 and 2, whose sums are 6 and 5.
+-- one solution. And wrong answers that the promises rule out. In order: what is answered and how long the columns are; the promise
+-- settles both; two unknowns, 7 and 1, at the points 1 and 2, whose sums are 6 and 5.
 use mathlib.Core.Path.{_≡_, refl, sym, ap, _∙_}
-use mathlib.Core.Logic.{⊎-elim}
 use mathlib.Core.Bool.{Bool, true, false}
 use mathlib.Core.List.{List, [], _∷_}
-use Prim.Native.Nat.{ℕ, zero, suc, _+_, _*_, _<_, _≤_}
+use Prim.Native.Nat.{ℕ, _+_, _*_, _≤_}
 use native.Mathlib.Omega.{arith}
 use lib.ListN.{length, getD}
-use lib.Seq.{ext-getD}
-use Rattle.theory.proofs.Vandermonde.{square-only}
 use Rattle.field.specs.Number.{modulus, add, double, byBits, mul, power}
-use Rattle.field.proofs.Numbers.{numbers, number, number-injective}
 use Rattle.rules.specs.Equation.{sumBelow}
 use Rattle.rules.specs.Stripe.{IsBytes}
 use Rattle.rules.proofs.Stripes.{by-columns}
 use Rattle.columns.proofs.Kernels.{entry-within}
-use Rattle.solver.specs.Solve.{Apart, moment, Solves, columnsAt, Solved}
+use Rattle.distinct.specs.Promise.{Apart}
+use Rattle.distinct.proofs.Settled.{points, one-two-apart}
+use Rattle.systems.specs.System.{moment}
+use Rattle.systems.proofs.Settled.{moments-only}
+use Rattle.solver.specs.Solve.{columnsAt, Solved}
 use Rattle.solver.specs.Promise.{Solvable, UnknownsAre}
-use Rattle.solver.proofs.Indices.{before-or-past}
-use Rattle.solver.proofs.Ties.{fieldPoint, apart-tie, moment-tie}
-
--- a square system has one solution in bytes
-pub moments-only : (count : ℕ) (points : List ℕ) (x y : ℕ → ℕ) → count ≤ 4 → IsBytes 4 points → Apart count points
-    → ((j : ℕ) → j < count → x j < 256)
-    → ((j : ℕ) → j < count → y j < 256)
-    → ((t : ℕ) → t < count → moment count points x t ≡ moment count points y t)
-    → (j : ℕ) → j < count → x j ≡ y j
-moments-only count points x y few bytes apart small others same j l =
-    number-injective (x j) (y j) (small j l) (others j l)
-    (square-only numbers (fieldPoint points) count (λ i. number (x i)) (λ i. number (y i))
-    (apart-tie count points (λ i h. bytes .bytes i (omega arith)) apart)
-    (λ t h. sym (moment-tie count points x t) ∙ ap number (same t h) ∙ moment-tie count points y t)
-    j l)
-
-pub solves-settled : (count : ℕ) (points given xs ys : List ℕ) → count ≤ 4 → IsBytes 4 points → Apart count points
-    → Solves count points given xs
-    → Solves count points given ys
-    → xs ≡ ys
-solves-settled count points given xs ys few bytes apart p q =
-    ext-getD 0 xs ys (p .bytes .exact ∙ sym (q .bytes .exact)) (λ j l. ⊎-elim (inside j) (past j) (before-or-past j count))
-  where
-    inside : (j : ℕ) → j < count → getD xs j 0 ≡ getD ys j 0
-    inside =
-        moments-only count points (λ j. getD xs j 0) (λ j. getD ys j 0) few bytes apart (λ j l. p .bytes .bytes j (omega arith))
-        (λ j l. q .bytes .bytes j (omega arith))
-        (λ t l. p .sums t l ∙ sym (q .sums t l))
-
-    past : (j : ℕ) → count ≤ j → getD xs j 0 ≡ getD ys j 0
-    past j l = p .rest j l ∙ sym (q .rest j l)
 
 columns-only : (count : ℕ) (points : List ℕ) (size : ℕ) (sums xs ys : List ℕ) → count ≤ 4 → IsBytes 4 points → Apart count points
     → IsBytes (count * size) xs
@@ -88,38 +57,13 @@ unknowns-settled count points size sums before true false xs ys bytes p q = absu
 unknowns-settled count points size sums before false true xs ys bytes p q = absurd (p .cannot refl (q .can refl))
 unknowns-settled count points size sums before false false xs ys bytes p q = (refl, p .kept refl ∙ sym (q .kept refl))
 
--- the points 1 and 2
-abbrev points : List ℕ
-points = 1 ∷ 2 ∷ 0 ∷ 0 ∷ []
-
-points-apart : Apart 2 points
-points-apart zero zero hi hj e = refl
-points-apart zero (suc zero) hi hj e = absurd (let z : _≡_ {A = ℕ} 1 2 = e in omega arith)
-points-apart (suc zero) zero hi hj e = absurd (let z : _≡_ {A = ℕ} 2 1 = e in omega arith)
-points-apart (suc zero) (suc zero) hi hj e = refl
-points-apart zero (suc (suc j)) hi hj e = absurd (omega arith)
-points-apart (suc zero) (suc (suc j)) hi hj e = absurd (omega arith)
-points-apart (suc (suc i)) j hi hj e = absurd (omega arith)
-
--- one row: zeros, a wrong number, and a number past the last unknown
-pub solve-zeros : Solves 2 points (6 ∷ 5 ∷ 0 ∷ 0 ∷ []) (0 ∷ 0 ∷ 0 ∷ 0 ∷ []) → ⊥
-unfolding moment sumBelow power mul byBits double add modulus
-solve-zeros p = let e : _≡_ {A = ℕ} 0 6 = p .sums 0 (omega arith) in omega arith
-
-pub solve-wrong : Solves 2 points (6 ∷ 5 ∷ 0 ∷ 0 ∷ []) (1 ∷ 7 ∷ 0 ∷ 0 ∷ []) → ⊥
-unfolding moment sumBelow power mul byBits double add modulus
-solve-wrong p = let e : _≡_ {A = ℕ} 15 5 = p .sums 1 (omega arith) in omega arith
-
-pub solve-past : Solves 2 points (6 ∷ 5 ∷ 0 ∷ 0 ∷ []) (7 ∷ 1 ∷ 1 ∷ 0 ∷ []) → ⊥
-solve-past p = let e : _≡_ {A = ℕ} 1 0 = p .rest 2 (omega arith) in omega arith
-
 -- columns of one byte, where 9 and 9 stand before
 abbrev Unknowns : Bool → List ℕ → Type 0
 Unknowns = UnknownsAre 2 points 1 (6 ∷ 5 ∷ []) (9 ∷ 9 ∷ [])
 
 pub unknowns-refuses : (later : List ℕ) → Unknowns false later → ⊥
 unknowns-refuses later p =
-    p .cannot refl (record { few = omega arith; short = omega arith; sums-exact = refl; found-exact = refl; apart = points-apart })
+    p .cannot refl (record { few = omega arith; short = omega arith; sums-exact = refl; found-exact = refl; apart = one-two-apart })
 
 pub unknowns-keeps : Unknowns true (9 ∷ 9 ∷ []) → ⊥
 unfolding moment sumBelow power mul byBits double add modulus

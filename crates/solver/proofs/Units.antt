@@ -11,10 +11,12 @@ use Rattle.theory.proofs.Vandermonde.{units-solve}
 use Rattle.field.specs.Number.{mul}
 use Rattle.field.proofs.Numbers.{numbers, number, number-zero, number-one, number-mul, number-injective}
 use Rattle.rules.proofs.Ties.{sum-tie}
-use Rattle.solver.specs.Solve.{moment, columnsAt, Solved}
-use Rattle.solver.specs.Kernel.{entry, unit, ConstantsAre, combined, ColumnsAre}
-use Rattle.solver.proofs.Indices.{four}
-use Rattle.solver.proofs.Ties.{fieldPoint, moment-tie, moment-below}
+use Rattle.systems.specs.System.{moment}
+use Rattle.solver.specs.Solve.{columnsAt, Solved}
+use Rattle.systems.specs.System.{entry}
+use Rattle.solver.specs.Kernel.{unit, ConstantsAre, combined, ColumnsAre}
+use Rattle.distinct.proofs.Indices.{four}
+use Rattle.systems.proofs.Ties.{fieldPoint, moment-tie, moment-below}
 
 unit-own : (u : ℕ) → u < 4 → getD (unit u) u 0 ≡ 1
 unit-own = four (λ u. getD (unit u) u 0 ≡ 1) refl refl refl refl

@@ -1,6 +1,6 @@
--- What is solved: as many unknowns a row as there are equations, by the powers of distinct points.
---   Solve   == what the row solver and `unknowns` solve
---   Promise == what `unknowns` promises
+-- Columns of unknowns: at every row as many as there are equations, by the powers of distinct points.
+--   Solve   == what `unknowns` solves
+--   Promise == what it promises
 --   Kernel  == what the private functions promise
 pub mod Solve
 pub mod Promise

@@ -8,7 +8,8 @@ use mathlib.Core.List.{List}
 use Prim.Native.Nat.{ℕ, _*_, _≤_}
 use lib.ListN.{length}
 use Rattle.rules.specs.Stripe.{IsBytes}
-use Rattle.solver.specs.Solve.{Apart, Solved}
+use Rattle.distinct.specs.Promise.{Apart}
+use Rattle.solver.specs.Solve.{Solved}
 
 pub record Solvable (count : ℕ) (points : List ℕ) (size : ℕ) (sums found : List ℕ) : Type 0 where
   pub few : count ≤ 4

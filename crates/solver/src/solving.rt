@@ -1,49 +1,19 @@
 // Whole columns of unknowns: the row solver finds, once for all rows, by which constants the sums count in each unknown. No table is read in a loop over bytes:
 // `add_multiple` goes without.
-use crate::rows::solve;
 use columns::add_multiple;
 use columns::clear;
+use distinct::apart;
+use systems::solve;
 ghost use mathlib.Core.Path.{_≡_};
 ghost use Prim.Native.Nat.{_≤_, _<_, _*_};
-ghost use lib.ListN.{length, getD};
-ghost use Rattle.solver.specs.Kernel.{ConstantsAre, Combined, ColumnsAre, FreshIs, ApartIs};
+ghost use lib.ListN.{length};
+ghost use Rattle.distinct.specs.Promise.{FewApart};
+ghost use Rattle.solver.specs.Kernel.{ConstantsAre, Combined, ColumnsAre};
 ghost use Rattle.solver.specs.Promise.{UnknownsAre};
-ghost use Rattle.solver.specs.Solve.{Apart};
-
-// Is point i none of the points before it?
-fn fresh(points: [u8; 4], i: usize) -> bool
-    requires { ⌜ i < 4 ⌝ }
-    ensures { λ answer. ⌜ FreshIs points i answer ⌝ }
-{
-    let mut j = 0;
-    while j < i {
-        if points[j] == points[i] {
-            return false;
-        }
-        j = j + 1;
-    }
-    true
-}
-
-// Do the first `count` points differ?
-fn apart(count: usize, points: [u8; 4]) -> bool
-    requires { ⌜ count ≤ 4 ⌝ }
-    ensures { λ answer. ⌜ ApartIs count points answer ⌝ }
-{
-    let mut i = 0;
-    while i < count {
-        if !fresh(points, i) {
-            return false;
-        }
-        i = i + 1;
-    }
-    true
-}
 
 // The constants: row t solves for a sum 1 of the powers t, and sums 0 of the others.
 fn constants(count: usize, points: [u8; 4]) -> [[u8; 4]; 4]
-    requires { ⌜ count ≤ 4 ⌝ }
-    requires { ⌜ Apart count points ⌝ }
+    requires { ⌜ FewApart count points ⌝ }
     ensures { λ rows. ⌜ ConstantsAre count points rows ⌝ }
 {
     let first = solve(count, points, [1, 0, 0, 0]);
@@ -92,7 +62,7 @@ fn write(count: usize, rows: [[u8; 4]; 4], size: usize, sums: &[u8], found: &mut
 pub fn unknowns(count: usize, points: [u8; 4], size: usize, sums: &[u8], found: &mut [u8]) -> bool
     ensures { λ answer. ⌜ UnknownsAre count points size (now (sums .entry)) (now (found .entry)) answer (now (found .exit)) ⌝ }
 {
-    if 4 < count {
+    if !apart(count, points) {
         return false;
     }
     if 256 < size {
@@ -102,9 +72,6 @@ pub fn unknowns(count: usize, points: [u8; 4], size: usize, sums: &[u8], found: 
         return false;
     }
     if found.len() != count * size {
-        return false;
-    }
-    if !apart(count, points) {
         return false;
     }
     let rows = constants(count, points);

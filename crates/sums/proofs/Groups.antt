@@ -17,7 +17,7 @@ use Rattle.rules.specs.Stripe.{Symbols, columnStart, symbol}
 use Rattle.rules.specs.Equation.{weighed, weight}
 use Rattle.rules.proofs.Accepted.{Bounds, size-some}
 use Rattle.rules.proofs.Layouts.{set-below}
-use Rattle.sums.specs.Kernel.{weightAt}
+use Rattle.weights.specs.Promise.{weightAt}
 
 abbrev pub groupPart : Shape → List ℕ → ℕ → List ℕ
 groupPart sh stripe v =

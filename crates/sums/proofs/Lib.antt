@@ -1,17 +1,11 @@
 -- Why the functions that sum keep their promises.
---   Refusals  == from what the tests find to the refusal
---   Groups    == the columns of a group as a part of the stripe
---   Room      == how far the numbers of the loop over all nodes go
---   Summing   == the running sums of the equations
---   Positions == the rows read by their positions
---   Gains     == what is added to running sums
---   Alone     == what one fraction alone brings to the equations of the rows read
---   Settled   == each promise settles answer and buffers, and rules wrong answers out
+--   Refusals == from what the tests find to the refusal
+--   Groups   == the columns of a group as a part of the stripe
+--   Room     == how far the numbers of the loop over all nodes go
+--   Summing  == the running sums of the equations
+--   Settled  == each promise settles answer and buffers, and rules wrong answers out
 pub mod Refusals
 pub mod Groups
 pub mod Room
 pub mod Summing
-pub mod Positions
-pub mod Gains
-pub mod Alone
 pub mod Settled

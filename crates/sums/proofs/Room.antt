@@ -1,11 +1,12 @@
 -- How far the numbers go that the loop over all nodes works with, at node i + 1 of an accepted shape. In order: bounds that hold for every shape; the part of
 -- the stripe with the columns of the node's group.
 --   Room z i == every number fits, and the part lies in the stripe
-use Prim.Native.Nat.{ℕ, suc, _+_, _*_, _/_, _<_, _≤_, min}
-use native.Mathlib.Nat.{mul-le-mul, mul-le-mul-right, div-mul-le-self, div-le-self, div-lt-iff-lt-mul, le-min, le-of-lt}
+use Prim.Native.Nat.{ℕ, _+_, _*_, _/_, _<_, _≤_, min}
+use native.Mathlib.Nat.{mul-le-mul, mul-le-mul-right, div-mul-le-self, div-le-self, le-min, le-of-lt}
 use native.Mathlib.Omega.{arith}
 use Rattle.rules.specs.declared.shapes.Sizes.{Sizes}
 use Rattle.rules.proofs.Measures.{Small}
+use Rattle.rules.proofs.Lengths.{group-within}
 use Rattle.columns.proofs.Kernels.{product-small}
 
 pub record Room (z : Sizes) (i : ℕ) : Type 0 where
@@ -19,7 +20,7 @@ pub record Room (z : Sizes) (i : ℕ) : Type 0 where
 -- a group begins with a node that is there
 first-there : (i m s n : ℕ) → 0 < s → m * s < n + s → i < m * s → i / s * s < n
 first-there i m s n some few h =
-    omega (arith, few, mul-le-mul-right {m = suc (i / s)} {n = m} s (div-lt-iff-lt-mul {k = s} {x = i} {y = m} some .1 h))
+    omega (arith, few, group-within i m s some h)
 
 pub room : (z : Sizes) (i : ℕ) → Small z → i < z .m * z .s → Room z i
 room z i small h =

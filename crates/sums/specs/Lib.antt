@@ -2,7 +2,7 @@
 --   Answer  == the number and the values of each case of a test's answer
 --   Refusal == the refusals of each function, in order
 --   Promise == what each function promises
---   Kernel  == what the private functions over the bytes of columns do; no promise cites it
+--   Kernel  == what the private functions do; no promise cites it
 pub mod Answer
 pub mod Refusal
 pub mod Promise

@@ -3,25 +3,20 @@
 --   TestMeets     == `test`
 --   SumsOf sh C sums == the sums of all equations of the symbols C, those of t = 0 for every row first
 --   SumsMeet      == `sums_of`
---   Added sh failed helper given before later == to the r sums of every row read is added what the helper's fraction alone brings to its equations; those
---                    of t = 0 stand first, and the rows read in rising order
---   AddMeets      == `add_fraction`
 use mathlib.Core.Path.{_≡_}
 use mathlib.Core.List.{List}
 use mathlib.Core.Option.{none, some}
 use Prim.Native.Nat.{ℕ, _+_, _*_, _<_}
 use lib.ListN.{length, getD}
-use Rattle.field.specs.Number.{add}
 use Rattle.rules.specs.declared.shapes.Shape.{Shape}
 use Rattle.rules.specs.Shape.{rows}
 use Rattle.rules.specs.Stripe.{Symbols, symbol}
 use Rattle.rules.specs.Equation.{equation}
-use Rattle.rules.specs.Fraction.{rowsRead, fractionLength, alone}
 use Rattle.yebarg.specs.declared.answers.Outcome.{Outcome}
 use Rattle.sums.specs.declared.answers.Tested.{Tested}
 use Rattle.yebarg.specs.Answer.{refusal}
 use Rattle.sums.specs.Answer.{refusalOfTest, FoundIs}
-use Rattle.sums.specs.Refusal.{testRefusal, sumsRefusal, addRefusal}
+use Rattle.sums.specs.Refusal.{testRefusal, sumsRefusal}
 
 pub record TestMeets (sh : Shape) (stripe : List ℕ) (answer : Tested) : Type 0 where
   pub answered : refusalOfTest answer ≡ testRefusal sh stripe
@@ -35,14 +30,3 @@ pub record SumsMeet (sh : Shape) (stripe buffer : List ℕ) (answer : Outcome) (
   pub answered : refusal answer ≡ sumsRefusal sh stripe buffer
   pub written : sumsRefusal sh stripe buffer ≡ none → SumsOf sh (symbol sh stripe) later
   pub kept : (q : ℕ) → sumsRefusal sh stripe buffer ≡ some q → later ≡ buffer
-
-pub record Added (sh : Shape) (failed helper : ℕ) (given before later : List ℕ) : Type 0 where
-  pub same-length : length later ≡ length before
-  pub bytes : (t j : ℕ) → t < sh .r → j < fractionLength sh
-      → getD later (t * fractionLength sh + j) 0
-      ≡ add (getD before (t * fractionLength sh + j) 0) (equation sh (alone sh failed helper given) (getD (rowsRead sh failed) j 0) t)
-
-pub record AddMeets (sh : Shape) (failed helper : ℕ) (given sums : List ℕ) (answer : Outcome) (later : List ℕ) : Type 0 where
-  pub answered : refusal answer ≡ addRefusal sh failed helper given sums
-  pub written : addRefusal sh failed helper given sums ≡ none → Added sh failed helper given sums later
-  pub kept : (q : ℕ) → addRefusal sh failed helper given sums ≡ some q → later ≡ sums

@@ -1,7 +1,6 @@
 -- The refusals of each function, in document 01's order: the first that applies is given, and none otherwise.
 --   testRefusal     == of `test`: shape; stripe
 --   sumsRefusal     == of `sums_of`: shape; stripe; buffer of r × l
---   addRefusal      == of `add_fraction`: shape; fraction; sums, r × l / s; helper; failed node; the failed node's own fraction
 use mathlib.Core.Bool.{not}
 use mathlib.Core.List.{List, [], _∷_}
 use mathlib.Core.Option.{Option}
@@ -11,9 +10,7 @@ use lib.ListN.{length}
 use Rattle.rules.specs.declared.shapes.Shape.{Shape}
 use Rattle.rules.specs.Shape.{accepted, rows}
 use Rattle.rules.specs.Stripe.{stripeLength}
-use Rattle.rules.specs.Fraction.{fractionLength}
 use Rattle.rules.specs.Refusal.{firstOf, _given-when_}
-use Rattle.yebarg.specs.Refusal.{notNode}
 
 unfoldable pub testRefusal : Shape → List ℕ → Option ℕ
 testRefusal sh stripe =
@@ -28,15 +25,4 @@ sumsRefusal sh stripe buffer =
     (1 given-when not (accepted sh)
     ∷ 2 given-when not (eqb (length stripe) (stripeLength sh))
     ∷ 2 given-when not (eqb (length buffer) (sh .r * rows sh))
-    ∷ [])
-
-unfoldable pub addRefusal : Shape → ℕ → ℕ → List ℕ → List ℕ → Option ℕ
-addRefusal sh failed helper given sums =
-    firstOf
-    (1 given-when not (accepted sh)
-    ∷ 2 given-when not (eqb (length given) (fractionLength sh))
-    ∷ 2 given-when not (eqb (length sums) (sh .r * fractionLength sh))
-    ∷ 3 given-when notNode sh helper
-    ∷ 3 given-when notNode sh failed
-    ∷ 3 given-when eqb helper failed
     ∷ [])

@@ -17,8 +17,8 @@ use Rattle.rules.specs.Lost.{isLost, lostCount, bitAbove}
 use Rattle.rules.specs.Bench.{shape}
 use Rattle.rules.proofs.Accepted.{Bounds, bounds}
 use Rattle.rules.proofs.Pieces.{flat-most}
-use Rattle.layout.specs.Pack.{nodesOf}
-use Rattle.layout.proofs.Sets.{listed-held, held-count}
+use Rattle.entries.specs.Pack.{nodesOf}
+use Rattle.entries.proofs.Sets.{listed-held, held-count}
 use Rattle.pack.specs.declared.answers.Contents.{Contents}
 use Rattle.pack.specs.declared.answers.Unpacked.{Unpacked}
 use Rattle.pack.specs.declared.answers.Unpacked.the-variants as unpacked

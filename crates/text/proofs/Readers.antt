@@ -1,33 +1,27 @@
 -- The text of what the pack reader answers. In order: a reader's answer calls for no refusal, so that its shape, its lost nodes and their columns are printed;
 -- of a stripe with more bytes after it the same lines are printed.
-use mathlib.Core.Path.{_≡_, refl, ap}
+use mathlib.Core.Path.{_≡_, ap}
 use mathlib.Core.List.{List, _++_}
-use mathlib.Core.Option.{Option, none, some, Option·none-ne-some}
+use mathlib.Core.Option.{none}
 use Prim.Native.Nat.{ℕ, _≤_}
 use Rattle.rules.specs.declared.shapes.Shape.{Shape}
 use Rattle.rules.specs.Stripe.{column}
 use Rattle.rules.proofs.Pieces.{flat-same}
-use Rattle.layout.specs.Pack.{nodesOf}
-use Rattle.layout.proofs.Sets.{listed-held}
+use Rattle.entries.specs.Pack.{nodesOf}
+use Rattle.entries.proofs.Sets.{listed-held}
 use Rattle.pack.specs.declared.answers.Contents.{Contents}
 use Rattle.pack.specs.declared.answers.Unpacked.the-variants.{Accepted}
-use Rattle.pack.specs.Refusal.{readRefusal}
-use Rattle.pack.specs.Promise.{ReadIs, ReadMeets}
+use Rattle.pack.specs.Promise.{ReadMeets}
+use Rattle.pack.proofs.Passed.{accepted-passes, accepted-read}
 use Rattle.pack.proofs.Unpacking.{content-few}
 use Rattle.text.specs.Text.{spaced, spacedAll, line, shapeLine, lostLine, columnLine, readText, contentsRefusal, contentsText, printed}
 use Rattle.text.proofs.Refusals.{taken→none}
 
 module _ (pack before : List ℕ) (contents : Contents) (later : List ℕ) (p : ReadMeets pack before (Accepted contents) later) where
-  passes : readRefusal pack before ≡ none
-  passes = go (readRefusal pack before) refl
-    where
-      go : (r : Option ℕ) → readRefusal pack before ≡ r → readRefusal pack before ≡ none
-      go none e = e
-      go (some q) e = absurd (Option·none-ne-some q (p .refused q e))
-
   pub reader-calls-for-none : contentsRefusal contents ≡ none
   reader-calls-for-none =
-      let is : ReadIs pack before contents later = p .reads passes contents refl in
+      let passes = accepted-passes pack before contents later p in
+      let is = accepted-read pack before contents later p in
       taken→none contents (record { shape = is .taken; none-above = is .inside; few = content-few pack before contents later is passes })
 
   pub reader-printed : (stripe : List ℕ) → printed (Accepted contents) stripe ≡ readText (contents .shape) (contents .lost) stripe

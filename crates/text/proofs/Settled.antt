@@ -17,7 +17,7 @@ use Rattle.rules.specs.Stripe.{columnStart, column}
 use Rattle.rules.specs.Rising.{rising}
 use Rattle.rules.specs.Lost.{isLost, lostCount, bitAbove}
 use Rattle.rules.specs.Bench.{shape, stripeC}
-use Rattle.layout.specs.Pack.{nodesOf}
+use Rattle.entries.specs.Pack.{nodesOf}
 use Rattle.pack.specs.declared.answers.Unpacked.{Unpacked}
 use Rattle.pack.specs.declared.answers.Unpacked.the-variants as unpacked
 use Rattle.pack.specs.Refusal.{stripeMost}

@@ -12,8 +12,8 @@ use lib.ListN.{length, getD, take, drop, length-append, take-append-drop}
 use lib.Seq.{take-suc, take-all}
 use Rattle.rules.specs.declared.shapes.Shape.{Shape}
 use Rattle.rules.proofs.Pieces.{flat-none, flat-append, flat-more}
-use Rattle.layout.specs.Pack.{has, nodesOf}
-use Rattle.layout.proofs.Sets.{nodesTo, nodes-all, nodes-start, nodes-take, nodes-skip}
+use Rattle.entries.specs.Pack.{has, nodesOf}
+use Rattle.entries.proofs.Sets.{nodesTo, nodes-all, nodes-start, nodes-take, nodes-skip}
 use Rattle.text.specs.Text.{spaced, spacedAll}
 use Rattle.text.specs.Kernel.{Fits, Put}
 use Rattle.text.proofs.Puts.{fits-first, put-length, put-nothing, next-fits, next-put}

@@ -10,7 +10,7 @@ use Rattle.rules.specs.Shape.{rows}
 use Rattle.rules.specs.Stripe.{column}
 use Rattle.rules.specs.Promise.{SizesAre}
 use Rattle.rules.proofs.Pieces.{flat-none}
-use Rattle.layout.specs.Pack.{nodesOf}
+use Rattle.entries.specs.Pack.{nodesOf}
 use Rattle.text.specs.Text.{letters, spaced, spacedAll, spacedOrNone, line, refusedLine, shapeLine, lostLine, columnLine}
 use Rattle.text.proofs.Turns.{all-spaced}
 use Rattle.text.proofs.Digits.{spaced-least}

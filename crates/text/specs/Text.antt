@@ -32,7 +32,7 @@ use Rattle.rules.specs.Refusal.{firstOf, _given-when_}
 use Rattle.pack.specs.declared.answers.Contents.{Contents}
 use Rattle.pack.specs.declared.answers.Unpacked.{Unpacked}
 use Rattle.pack.specs.declared.answers.Unpacked.the-variants as unpacked
-use Rattle.layout.specs.Pack.{nodesOf}
+use Rattle.entries.specs.Pack.{nodesOf}
 
 abbrev pub letters : String → List ℕ
 letters end = []

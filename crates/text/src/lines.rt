@@ -10,7 +10,7 @@ ghost use mathlib.Core.List.{flatMap};
 ghost use Prim.Native.Nat.{suc, _<_};
 ghost use lib.ListN.{length};
 ghost use Rattle.rules.specs.Promise.{SizesAre};
-ghost use Rattle.layout.specs.Pack.{nodesOf};
+ghost use Rattle.entries.specs.Pack.{nodesOf};
 ghost use Rattle.pack.specs.Refusal.{stripeMost};
 ghost use Rattle.text.specs.Text.{spacedAll, refusedLine, shapeLine, lostLine, columnLine};
 ghost use Rattle.text.specs.Kernel.{Fits, Put};

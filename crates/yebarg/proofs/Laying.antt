@@ -13,7 +13,7 @@ use Rattle.yebarg.specs.declared.answers.Outcome.{Outcome}
 use Rattle.yebarg.specs.declared.answers.Outcome.the-variants.{Done}
 use Rattle.yebarg.specs.Refusal.{layRefusal, readBackRefusal}
 use Rattle.yebarg.specs.Promise.{LayMeets, ReadBackMeets}
-use Rattle.yebarg.proofs.Lengths.{data-most}
+use Rattle.rules.proofs.Lengths.{data-most}
 use Rattle.yebarg.proofs.Refusals.{lay-taken, read-back-accepted}
 use Rattle.yebarg.proofs.Settled.{refusal-only}
 

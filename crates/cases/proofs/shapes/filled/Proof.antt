@@ -9,7 +9,7 @@ use lib.Count.{ones-le}
 use lib.ListN.{length}
 use borrow.Author.Needs.{needs}
 use Rattle.rules.specs.declared.shapes.Sizes.{Sizes}
-use Rattle.yebarg.proofs.Lengths.{stripe-is}
+use Rattle.rules.proofs.Lengths.{stripe-is}
 use Rattle.cases.proofs.Sizing.{Room, room}
 use Rattle.cases.proofs.shapes.filled.Statement.{statement}
 use Rattle.cases.proofs.shapes.filled.Tie as tie

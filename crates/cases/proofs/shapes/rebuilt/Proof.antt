@@ -10,7 +10,7 @@ use borrow.Author.Needs.{needs}
 use Rattle.rules.specs.declared.shapes.Sizes.{Sizes}
 use Rattle.columns.proofs.Kernels.{column-within}
 use Rattle.columns.proofs.Parts.{part-length, put-length}
-use Rattle.yebarg.proofs.Lengths.{stripe-is}
+use Rattle.rules.proofs.Lengths.{stripe-is}
 use Rattle.cases.proofs.Rules.{helper-in}
 use Rattle.cases.proofs.Sizing.{Room, room, repeat-front, column-ends}
 use Rattle.cases.proofs.shapes.rebuilt.Statement.{statement}

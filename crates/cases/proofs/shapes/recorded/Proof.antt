@@ -7,7 +7,7 @@ use native.Mathlib.Omega.{arith}
 use lib.ListN.{length}
 use borrow.Author.Needs.{needs}
 use Rattle.rules.specs.declared.shapes.Sizes.{Sizes}
-use Rattle.yebarg.proofs.Lengths.{stripe-is}
+use Rattle.rules.proofs.Lengths.{stripe-is}
 use Rattle.cases.proofs.Sizing.{Room, room, counts, repeat-front}
 use Rattle.cases.proofs.shapes.recorded.Statement.{statement}
 use Rattle.cases.proofs.shapes.recorded.Tie as tie

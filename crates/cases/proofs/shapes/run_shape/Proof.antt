@@ -9,7 +9,7 @@ use Rattle.rules.specs.declared.shapes.Sizes.{Sizes}
 use Rattle.rules.specs.Stripe.{stripeLength}
 use Rattle.rules.specs.Promise.{SizesAre}
 use Rattle.rules.proofs.Measures.{measured-sizes}
-use Rattle.yebarg.proofs.Lengths.{stripe-is}
+use Rattle.rules.proofs.Lengths.{stripe-is}
 use Rattle.cases.proofs.Sizing.{room, repeat-front}
 use Rattle.cases.proofs.shapes.run_shape.Statement.{statement}
 use Rattle.cases.proofs.shapes.run_shape.Tie as tie

@@ -11,9 +11,9 @@ use lib.ListN.{length, getD}
 use borrow.Author.Tests.{eq-eqb, ne-eqb}
 use borrow.Author.Needs.{needs}
 use Rattle.rules.specs.Lost.{isLost}
-use Rattle.columns.proofs.Kernels.{Written, written-start, written-step, written-whole}
+use Rattle.columns.proofs.Kernels.{Written, written-start, written-step, written-skip, written-whole}
 use Rattle.cases.specs.Promise.{oldByte}
-use Rattle.cases.proofs.Rules.{lost-bit, old-byte, written-skip}
+use Rattle.cases.proofs.Rules.{lost-bit, old-byte}
 use Rattle.cases.proofs.stripes.spoil.Statement.{statement}
 use Rattle.cases.proofs.stripes.spoil.Tie as tie
 
@@ -67,7 +67,7 @@ again c =
     (λ w. subst (Written (spoiltByte (a .l) (a .lost) (a .list .now)) (i + 1) (a .list .now)) (sym (w .2))
     (written-step so-far _ (omega (arith, so-far .same-length)) (w .1 .ensures ∙ old-byte i ∙ sym (simp (bit, eq-eqb _ _ (w .0 .taken))))))
     (λ w. subst (Written (spoiltByte (a .l) (a .lost) (a .list .now)) (i + 1) (a .list .now)) (sym (w .1))
-    (written-skip so-far (simp (bit, ne-eqb _ _ (w .0 .left)))))
+    (written-skip so-far (sym (simp (bit, ne-eqb _ _ (w .0 .left))))))
     (c .if1 .came)
 
 loop-again : tie.Need-loop-again Inv-loop μ-loop

@@ -15,9 +15,9 @@ use Rattle.rules.specs.Stripe.{stripeLength}
 use Rattle.rules.specs.Lost.{lostCount, isLost}
 use Rattle.rules.specs.Promise.{SizesAre}
 use Rattle.rules.proofs.Measures.{Small, small, measured-sizes, measured-refused}
-use Rattle.yebarg.proofs.Lengths.{stripe-is}
-use Rattle.levels.specs.Promise.{chosen}
-use Rattle.fill.specs.Kernel.{FlagsAre}
+use Rattle.rules.proofs.Lengths.{stripe-is}
+use Rattle.corrections.specs.Correction.{chosen}
+use Rattle.lost.specs.Promise.{FlagsAre}
 use Rattle.fill.specs.Refusal.{fillRefusal}
 use Rattle.rules.proofs.LostSets.{no-bit-above, lost-below}
 use Rattle.rules.proofs.Fillings.{filled-same-set}

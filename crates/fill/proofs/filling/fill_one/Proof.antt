@@ -16,13 +16,16 @@ use Rattle.rules.specs.Promise.{SizesAre}
 use Rattle.rules.proofs.Accepted.{Bounds, bounds}
 use Rattle.rules.proofs.Measures.{Small, small}
 use Rattle.columns.proofs.Parts.{zeros-length, front-fits, front-length}
-use Rattle.yebarg.proofs.Lengths.{stripe-is}
+use Rattle.rules.proofs.Lengths.{stripe-is}
 use Rattle.theory.specs.Set.{count as countOf}
 use Rattle.theory.specs.Whole.{AgreeOff}
 use Rattle.rules.proofs.House.{code, stripe}
-use Rattle.levels.specs.Promise.{chosen, LevelsCorrected, Fillable}
+use Rattle.corrections.specs.Correction.{chosen}
+use Rattle.levels.specs.Promise.{LevelsCorrected, Fillable}
 use Rattle.levels.proofs.Settled.{levels-true}
-use Rattle.fill.specs.Kernel.{Copied, Standing}
+use Rattle.lost.specs.Promise.{Copied}
+use Rattle.lost.proofs.Settled.{copied-true}
+use Rattle.fill.specs.Kernel.{Standing}
 use Rattle.fill.proofs.Attempts.{survivors, written-fills, unwritten-unfilled}
 use Rattle.fill.proofs.filling.fill_one.Statement.{statement}
 use Rattle.fill.proofs.filling.fill_one.Tie as tie
@@ -55,9 +58,7 @@ slice-aggregate-copy-columns : tie.Need-slice-aggregate-copy-columns
 slice-aggregate-copy-columns c = sym (zeros-length (end (c .before .before .before .before)) 4096 (end-most (c .before .before .before .before)))
 
 copy-columns-requires : tie.Need-copy-columns-requires
-copy-columns-requires c κs =
-    let a = c .before .before .before .before .before in
-    ((few a .n-most, few a .l-most), (zeros-length (end a) 4096 (end-most a), a .pre .1 .0 ∙ sym (end-is a)))
+copy-columns-requires c κs = search needs
 
 -- the scratch after the survivors are copied, with the rest of the zeros after it
 abbrev rest : tie.Start → List ℕ
@@ -66,8 +67,21 @@ rest c = drop (end c) (replicate 4096 0)
 abbrev copied : tie.After-copy-columns → List ℕ
 copied c = c .copy-columns .last .0
 
+-- they can be copied, so they are
+to-scratch : (c : tie.After-copy-columns) → let a = c .before .before .before .before .before .before in
+    Copied (c .before .before .before .others-of .result) (a .args .z .n) (a .args .z .l) (a .args .stripe .now) (take (end a) (replicate {A = ℕ} 4096 0)) (copied c)
+to-scratch c =
+    let a = c .before .before .before .before .before .before in
+    c .copy-columns .ensures .copied
+    (copied-true _ _ _ _ _ _ _ (c .copy-columns .ensures) (record {
+      few = few a .n-most;
+      short = few a .l-most;
+      to-exact = zeros-length (end a) 4096 (end-most a);
+      from-exact = a .pre .1 .0 ∙ sym (end-is a);
+    }))
+
 copied-length : (c : tie.After-copy-columns) → length (copied c) ≡ end (c .before .before .before .before .before .before)
-copied-length c = let a = c .before .before .before .before .before .before in c .copy-columns .ensures .same-length ∙ zeros-length (end a) 4096 (end-most a)
+copied-length c = let a = c .before .before .before .before .before .before in to-scratch c .same-length ∙ zeros-length (end a) 4096 (end-most a)
 
 array-borrow-prefix-scratch-2 : tie.Need-array-borrow-prefix-scratch-2
 array-borrow-prefix-scratch-2 c = let x = c .before in front-fits (copied x) (rest (x .before .before .before .before .before .before)) (end (x .before .before .before .before .before .before)) (copied-length x)
@@ -125,10 +139,7 @@ slice-aggregate-copy-columns-2 : tie.Need-slice-aggregate-copy-columns-2
 slice-aggregate-copy-columns-2 c = let x = c .before .before .before .before .before .before in sym (front-length (corrected x) _ (end (x .before .before .before .before .before .before .before .before .before)) (corrected-length x))
 
 copy-columns-requires-2 : tie.Need-copy-columns-requires-2
-copy-columns-requires-2 c κs =
-    let x = c .before .before .before .before .before .before in
-    let a = x .before .before .before .before .before .before .before .before .before in
-    ((few a .n-most, few a .l-most), (a .pre .1 .0 ∙ sym (end-is a), front-length (corrected x) _ (end a) (corrected-length x)))
+copy-columns-requires-2 c κs = search needs
 
 same-length : tie.Need-same-length
 same-length c = search needs
@@ -147,7 +158,7 @@ agrees c =
     let x = c .before .before .before in
     let a = x .before .before .before .before .before .before in
     survivors (a .args .shape) (fits a) (a .args .flags) (a .pre .1 .1 .2) (x .before .before .before .others-of .result) (a .args .stripe .now) _ (copied x) (x .before .before .before .others-of .ensures)
-    (as-shape (λ n l. Copied (x .before .before .before .others-of .result) n l (a .args .stripe .now) (take (end a) (replicate {A = ℕ} 4096 0)) (copied x)) (sizes a) (x .copy-columns .ensures))
+    (as-shape (λ n l. Copied (x .before .before .before .others-of .result) n l (a .args .stripe .now) (take (end a) (replicate {A = ℕ} 4096 0)) (copied x)) (sizes a) (to-scratch x))
 
 stood : (c : tie.After-stands) → let a = c .before .before .before .before .before .before .before .before .before .before .before .before in Standing (a .args .shape) (a .args .count) (corrected (c .before .before .before)) (c .stands .result)
 stood c =
@@ -164,7 +175,14 @@ written c =
     let x = c .before .before .before .before .before .before .before .before .before in
     let a = x .before .before .before .before .before .before .before .before .before in
     subst (λ list. Copied (a .args .flags) (a .args .z .n) (a .args .z .l) list (a .args .stripe .now) (c .before .before .copy-columns2 .last .0))
-    (take-at (corrected x) _ (end a) (corrected-length x)) (c .before .before .copy-columns2 .ensures)
+    (take-at (corrected x) _ (end a) (corrected-length x))
+    (c .before .before .copy-columns2 .ensures .copied
+    (copied-true _ _ _ _ _ _ _ (c .before .before .copy-columns2 .ensures) (record {
+      few = few a .n-most;
+      short = few a .l-most;
+      to-exact = a .pre .1 .0 ∙ sym (end-is a);
+      from-exact = front-length (corrected x) _ (end a) (corrected-length x);
+    })))
 
 returns : tie.Need-returns
 returns c =
@@ -173,7 +191,7 @@ returns c =
     written-fills (a .args .shape) (fits a) (a .args .flags) (a .pre .1 .1 .2) (a .args .count) (a .pre .1 .1 .0) (a .pre .1 .1 .1) (a .args .stripe .now) (copied (x .before .before .before))
     (corrected x) (agrees x) (levels x) (c .before .before .before .before .before .before .stands .result) (c .before .before .before .before .before .if1 .taken) (stood (c .before .before .before .before .before .before)) (c .before .before .copy-columns2 .last .0)
     (record { exact = a .pre .1 .0; bytes = λ k h. a-byte x k })
-    (record { exact = c .before .before .copy-columns2 .ensures .same-length ∙ a .pre .1 .0; bytes = λ k h. c .slice-known2 .given k .fits })
+    (record { exact = written c .same-length ∙ a .pre .1 .0; bytes = λ k h. c .slice-known2 .given k .fits })
     (as-shape (λ n l. Copied (a .args .flags) n l (corrected x) (a .args .stripe .now) (c .before .before .copy-columns2 .last .0)) (sizes a) (written c))
 
 same-length-2 : tie.Need-same-length-2

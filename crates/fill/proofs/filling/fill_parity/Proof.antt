@@ -19,9 +19,10 @@ use Rattle.rules.specs.Lost.{isParity}
 use Rattle.rules.specs.Promise.{SizesAre}
 use Rattle.rules.proofs.Measures.{Small, small, measured-sizes, measured-refused}
 use Rattle.rules.proofs.Fillings.{filled-same-set}
-use Rattle.yebarg.proofs.Lengths.{stripe-is}
-use Rattle.levels.specs.Promise.{chosen, NoneFrom}
-use Rattle.fill.specs.Kernel.{FlagsAre}
+use Rattle.rules.proofs.Lengths.{stripe-is}
+use Rattle.corrections.specs.Correction.{chosen}
+use Rattle.levels.specs.Promise.{NoneFrom}
+use Rattle.lost.specs.Promise.{FlagsAre}
 use Rattle.fill.proofs.Flags.{parity-none, parity-count}
 use Rattle.fill.proofs.Taken.{taken→parity}
 use Rattle.fill.proofs.Refusals.{parity-shape, parity-length, parity-refused, parity-done}

@@ -4,18 +4,20 @@ use mathlib.Core.Path.{_≡_, refl, sym, subst, _∙_}
 use mathlib.Core.Bool.{false}
 use mathlib.Core.List.{List}
 use mathlib.Core.Option.{none}
-use Prim.Native.Nat.{ℕ, _<_, _≤_}
+use Prim.Native.Nat.{ℕ, _<_}
 use native.Mathlib.Omega.{arith}
 use lib.ListN.{getD}
 use borrow.Author.Needs.{needs}
 use Rattle.rules.specs.declared.shapes.Sizes.{Sizes}
-use Rattle.rules.specs.Shape.{rows}
 use Rattle.rules.specs.Promise.{MeasuredIs, SizesAre}
 use Rattle.rules.proofs.Measures.{Small, small, measured-sizes, measured-refused}
 use Rattle.rules.proofs.Settled.{new-settled}
-use Rattle.layout.specs.Pack.{columnsAt, entryAt}
-use Rattle.layout.specs.Parts.{shapeIn, countIn}
-use Rattle.layout.specs.Refusal.{layoutRefusal, firstBadEntry, wrongTotal, firstWrongOffset}
+use Rattle.entries.specs.Pack.{columnsAt, entryAt}
+use Rattle.entries.specs.Parts.{shapeIn, countIn}
+use Rattle.entries.specs.Refusal.{layoutRefusal, firstBadEntry, wrongTotal, firstWrongOffset, wrongLength}
+use Rattle.entries.specs.Promise.{isShorter, EntriesGood}
+use Rattle.entries.proofs.Checking.{there-not-shorter}
+use Rattle.offsets.proofs.Placing.{total-by, offsets-by}
 use Rattle.layout.specs.Promise.{LayoutIs}
 use Rattle.layout.proofs.Checking.{HeaderTaken, CountTaken, layout-short, layout-third, layout-shape, layout-many, layout-cut, layout-entry}
 use Rattle.layout.proofs.Checking.{layout-total, layout-offset, layout-length, layout-passed, layout-refused, layout-accepted}
@@ -63,17 +65,40 @@ unfolding columnsAt entryAt
 counted c = record { header = header (c .before .before .before); few = c .before .if3 .left; there = c .if4 .left }
 
 -- past the checks of the entries, the total, the offsets, the length
+uncut : (c : tie.Else4) → isShorter (pack-of (c .before .before)) ≡ false
+uncut c = there-not-shorter _ (counted c .there)
+
 good : (c : tie.Else5) → firstBadEntry (pack-of (c .before .before .before .before)) ≡ 0
-good c = sym (c .before .first-bad-entry .ensures) ∙ c .if5 .left
+good c = sym (c .before .first-bad-entry .ensures .there (uncut (c .before .before))) ∙ c .if5 .left
+
+-- the columns can be placed, and they are placed as the rules place them
+most : (c : tie.Else4) → let pack = pack-of (c .before .before) in (getD pack 2 0 < 256) × (getD pack 0 0 < 256)
+most c = let a = first (c .before .before .before .before .before) in (a-byte a 2, a-byte a 0)
+
+total-is : (c : tie.After-wrong-total) → c .wrong-total .result ≡ wrongTotal (pack-of (c .before .before .before .before .before))
+unfolding columnsAt entryAt
+total-is c =
+    let a = c .before .before .before in
+    let z = a .before .before .before in
+    c .wrong-total .ensures .placed (record { there = uncut a; near = omega (arith, most a .0, most a .1); short = few z .l-most })
+    ∙ total-by _ _ _ refl (sizes z .l-is)
+
+offsets-are : (c : tie.After-first-wrong-offset) → c .first-wrong-offset .result ≡ firstWrongOffset (pack-of (c .before .before .before .before .before .before .before))
+unfolding columnsAt entryAt
+offsets-are c =
+    let a = c .before .before .before .before .before in
+    let z = a .before .before .before in
+    c .first-wrong-offset .ensures .placed (record { there = uncut a; near = omega (arith, most a .0, most a .1); short = few z .l-most })
+    ∙ offsets-by _ _ _ refl (sizes z .l-is)
+
+length-is : (c : tie.After-wrong-length) → c .wrong-length .result ≡ wrongLength (pack-of (c .before .before .before .before .before .before .before .before .before))
+length-is c = c .wrong-length .ensures .there (uncut (c .before .before .before .before .before .before .before))
 
 right-total : (c : tie.Else6) → wrongTotal (pack-of (c .before .before .before .before .before .before)) ≡ false
-right-total c = sym (c .before .wrong-total .ensures) ∙ c .if6 .left
+right-total c = sym (total-is (c .before)) ∙ c .if6 .left
 
 right-offsets : (c : tie.Else7) → firstWrongOffset (pack-of (c .before .before .before .before .before .before .before .before)) ≡ 0
-right-offsets c = sym (c .before .first-wrong-offset .ensures) ∙ c .if7 .left
-
-rows-are : (c : tie.Else4) → let z = c .before .before .before in (size z .l ≡ rows (shapeIn (pack-of (c .before .before)))) × (size z .l ≤ 256)
-rows-are c = let z = c .before .before .before in (sizes z .l-is, few z .l-most)
+right-offsets c = sym (offsets-are (c .before)) ∙ c .if7 .left
 
 abbrev measured-at : tie.Else8 → tie.After-measure
 measured-at c = c .before .before .before .before .before .before .before .before .before .before .before .before .before
@@ -83,7 +108,7 @@ passed c =
     let b = c .before .before in
     let a = b .before .before in
     layout-passed _ (counted (a .before .before .before .before)) (good (a .before .before)) (right-total a) (right-offsets b)
-    (sym (c .before .wrong-length .ensures) ∙ c .if8 .left)
+    (sym (length-is (c .before)) ∙ c .if8 .left)
 
 returns : tie.Need-returns
 returns c = layout-refused _ (layout-short _ (c .if1 .taken))
@@ -143,45 +168,46 @@ unfolding columnsAt entryAt
 returns-5 c = layout-refused _ (layout-cut _ (header (c .before .before .before)) (c .before .if3 .left) (c .if4 .taken))
 
 first-bad-entry-requires : tie.Need-first-bad-entry-requires
-first-bad-entry-requires c κs = counted c .there
+first-bad-entry-requires c κs = search needs
 
 returns-6 : tie.Need-returns-6
-returns-6 c = layout-refused _ (layout-entry _ (counted (c .before .before)) (λ q. c .if5 .taken (c .before .first-bad-entry .ensures ∙ q)))
+returns-6 c = layout-refused _ (layout-entry _ (counted (c .before .before)) (λ q. c .if5 .taken (c .before .first-bad-entry .ensures .there (uncut (c .before .before)) ∙ q)))
 
 wrong-total-requires : tie.Need-wrong-total-requires
-unfolding columnsAt entryAt
-wrong-total-requires c κs = let a = c .before .before in (counted a .there, (refl, rows-are a))
+wrong-total-requires c κs = search needs
 
 returns-7 : tie.Need-returns-7
 returns-7 c =
     let a = c .before .before in
-    layout-refused _ (layout-total _ (counted (a .before .before)) (good a) (sym (c .before .wrong-total .ensures) ∙ c .if6 .taken))
+    layout-refused _ (layout-total _ (counted (a .before .before)) (good a) (sym (total-is (c .before)) ∙ c .if6 .taken))
 
 first-wrong-offset-requires : tie.Need-first-wrong-offset-requires
-unfolding columnsAt entryAt
-first-wrong-offset-requires c κs = let a = c .before .before .before .before in (counted a .there, (refl, rows-are a))
+first-wrong-offset-requires c κs = search needs
 
 returns-8 : tie.Need-returns-8
 returns-8 c =
     let a = c .before .before in
     layout-refused _ (layout-offset _ (counted (a .before .before .before .before)) (good (a .before .before)) (right-total a)
-    (λ q. c .if7 .taken (c .before .first-wrong-offset .ensures ∙ q)))
+    (λ q. c .if7 .taken (offsets-are (c .before) ∙ q)))
 
 wrong-length-requires : tie.Need-wrong-length-requires
-wrong-length-requires c κs = counted (c .before .before .before .before .before .before) .there
+wrong-length-requires c κs = search needs
 
 returns-9 : tie.Need-returns-9
 returns-9 c =
     let b = c .before .before in
     let a = b .before .before in
     layout-refused _ (layout-length _ (counted (a .before .before .before .before)) (good (a .before .before)) (right-total a) (right-offsets b)
-    (sym (c .before .wrong-length .ensures) ∙ c .if8 .taken))
+    (sym (length-is (c .before)) ∙ c .if8 .taken))
 
 held-of-requires : tie.Need-held-of-requires
-held-of-requires c κs =
+held-of-requires c κs = search needs
+
+formed : (c : tie.Else8) → EntriesGood (bytes (first (measured-at c)))
+formed c =
     let a = c .before .before .before .before .before .before in
     let z = a .before .before .before .before .before in
-    record { there = counted (a .before .before) .there; nodes = omega (arith, sizes z .n-is, few z .n-most); good = good a }
+    record { there = uncut (a .before .before); nodes = omega (arith, sizes z .n-is, few z .n-most); good = good a }
 
 is-found : (c : tie.After-held-of) → let m = measured-at (c .before) in
     LayoutIs (bytes (first m)) (record { shape = m .before .new .result; held = c .held-of .result; start = columnsAt (countIn (bytes (first m))) })
@@ -189,7 +215,7 @@ is-found c =
     let m = measured-at (c .before) in
     let pack = bytes (first m) in
     subst (λ sh. LayoutIs pack (record { shape = sh; held = c .held-of .result; start = columnsAt (countIn pack) })) (sym (shape-is m))
-    (layout-found pack (c .held-of .result) (a-byte (first m)) (passed (c .before)) (c .held-of .ensures))
+    (layout-found pack (c .held-of .result) (a-byte (first m)) (passed (c .before)) (c .held-of .ensures .formed (formed (c .before))))
 
 returns-10 : tie.Need-returns-10
 unfolding columnsAt entryAt

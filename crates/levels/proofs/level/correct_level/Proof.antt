@@ -10,30 +10,27 @@ use lib.ListN.{length, getD, take, drop, replicate, length-append}
 use lib.Seq.{length-take-le}
 use native.Mathlib.Nat.{one-le-pow}
 use borrow.Author.Needs.{needs}
-use Rattle.theory.specs.Set.{count, Lists}
+use Rattle.theory.specs.Set.{Lists}
 use Rattle.theory.proofs.Counts.{lists-wider}
-use Rattle.rules.specs.declared.shapes.Shape.{Shape}
-use Rattle.rules.specs.declared.shapes.Sizes.{Sizes}
 use Rattle.rules.specs.Shape.{groupSize, groups, rows}
-use Rattle.rules.specs.Stripe.{symbol}
+use Rattle.rules.specs.Stripe.{stripeLength, symbol}
 use Rattle.rules.specs.Promise.{SizesAre}
 use Rattle.rules.proofs.Accepted.{Bounds, bounds, size-some, nodes-least}
 use Rattle.rules.proofs.Measures.{Small, small}
 use Rattle.columns.proofs.Kernels.{product-small}
 use Rattle.columns.proofs.Parts.{zeros-length, front-fits, front-length}
+use Rattle.rules.proofs.Lengths.{all-nodes}
 use Rattle.sums.specs.Promise.{SumsOf}
 use Rattle.sums.proofs.Refusals.{sums-accepted}
 use Rattle.solver.proofs.Settled.{unknowns-true, unknowns-length}
-use Rattle.levels.specs.Promise.{chosen}
+use Rattle.corrections.specs.Correction.{chosen}
+use Rattle.corrections.specs.Promise.{Correctable}
+use Rattle.corrections.proofs.Settled.{corrections-true}
 use Rattle.levels.specs.Kernel.{Fitting}
-use Rattle.levels.proofs.Listing.{listed-fitting}
+use Rattle.levels.proofs.Placements.{listed-fitting}
 use Rattle.levels.proofs.Shortfalls.{listed-apart, level-from}
 use Rattle.levels.proofs.level.correct_level.Statement.{statement}
 use Rattle.levels.proofs.level.correct_level.Tie as tie
-
--- the columns of all nodes, in the shape's sizes
-all-nodes : (sh : Shape) (z : Sizes) → SizesAre sh z → z .m * z .s * z .l ≡ groups sh * groupSize sh * rows sh
-all-nodes sh z h = ap₂ (λ (x y : ℕ). x * y) (ap₂ (λ (x y : ℕ). x * y) (h .m-is) (h .s-is)) (h .l-is)
 
 sizes : (c : tie.Start) → SizesAre (c .args .shape) (c .args .z)
 sizes c = c .pre .0
@@ -198,28 +195,32 @@ short c = c .place-columns .last .0
 short-length : (c : tie.After-place-columns) → length (short c) ≡ nodes-end (c .before .before .before .before .before .before .before .before .before .before .before .before .before .before .before .before)
 short-length c = let a = c .before .before .before .before .before .before .before .before .before .before .before .before .before .before .before .before in c .place-columns .ensures .same-length ∙ zeros-length (nodes-end a) 4096 (nodes-end-most a)
 
+slice-aggregate-correct-columns : tie.Need-slice-aggregate-correct-columns
+slice-aggregate-correct-columns c = sym (c .before .before .before .before .before .before .before .before .before .before .before .before .before .before .before .before .before .before .pre .1 .1 .1 .2 .all)
+
 array-share-prefix-short : tie.Need-array-share-prefix-short
 array-share-prefix-short c = let x = c .before .before in front-fits (short x) _ (nodes-end (x .before .before .before .before .before .before .before .before .before .before .before .before .before .before .before .before)) (short-length x)
 
-slice-aggregate-correct-columns : tie.Need-slice-aggregate-correct-columns
-slice-aggregate-correct-columns c = let x = c .before .before .before in sym (front-length (short x) _ (nodes-end (x .before .before .before .before .before .before .before .before .before .before .before .before .before .before .before .before)) (short-length x))
-
 slice-aggregate-correct-columns-2 : tie.Need-slice-aggregate-correct-columns-2
-slice-aggregate-correct-columns-2 c = sym (c .before .before .before .before .before .before .before .before .before .before .before .before .before .before .before .before .before .before .before .before .pre .1 .1 .1 .2 .all)
+slice-aggregate-correct-columns-2 c = let x = c .before .before .before in sym (front-length (short x) _ (nodes-end (x .before .before .before .before .before .before .before .before .before .before .before .before .before .before .before .before)) (short-length x))
 
 correct-columns-requires : tie.Need-correct-columns-requires
-correct-columns-requires c κs =
-    let x = c .before .before .before .before in
-    let a = x .before .before .before .before .before .before .before .before .before .before .before .before .before .before .before .before in (
-      sizes a,
-      (
-        a .pre .1 .0,
-        (
-          front-length (short x) _ (nodes-end a) (short-length x) ∙ all-nodes (a .args .shape) (a .args .z) (sizes a),
-          omega (arith, a .pre .1 .1 .1 .2 .all, fits a .l-most),
-        ),
-      ),
-    )
+correct-columns-requires c κs = search needs
+
+-- what is corrected has its lengths
+correctable : (c : tie.After-correct-columns) → let x = c .before .before .before .before .before in
+    let a = x .before .before .before .before .before .before .before .before .before .before .before .before .before .before .before .before in
+    Correctable (a .args .shape) (a .args .t8) (take (nodes-end a) (short x ++ drop (nodes-end a) (replicate 4096 0))) (a .args .stripe .now)
+unfolding stripeLength
+correctable c =
+    let x = c .before .before .before .before .before in
+    let a = x .before .before .before .before .before .before .before .before .before .before .before .before .before .before .before .before in
+    record {
+      taken = sizes a .taken;
+      scores-enough = omega (arith, a .pre .1 .1 .1 .2 .all, fits a .l-most);
+      short-exact = front-length (short x) _ (nodes-end a) (short-length x) ∙ all-nodes (a .args .shape) (a .args .z) (sizes a);
+      exact = a .pre .1 .0;
+    }
 
 same-length : tie.Need-same-length
 same-length c = search needs
@@ -231,9 +232,10 @@ returns c =
     let y = x .before .before .before .before .before .before in
     let a = x .before .before .before .before .before .before .before .before .before .before .before .before .before .before .before .before in
     level-from (a .args .shape) (a .args .flags) (a .args .nodes) (a .args .points) _ (a .args .count) (a .args .level) (a .args .stripe .now)
-    (step .correct-columns .last .0) (a .pre .1 .1 .0 .1) (lists a) (a .pre .1 .1 .1 .1) (a .pre .1 .1 .1 .2) (a .pre .1 .1 .0 .2) (a .args .z) (sizes a)
+    (step .correct-columns .last .1 .1 .1 .1 .1 .0) (a .pre .1 .1 .0 .1) (lists a) (a .pre .1 .1 .1 .1) (a .pre .1 .1 .1 .2) (a .pre .1 .1 .0 .2) (a .args .z) (sizes a)
     (sums (y .before .before .before .before)) (sums-rest a) (found y) _ _ (short x) _
-    (summed (y .before .before .before .before)) (found-length y) (y .unknowns .ensures .solved (solved y)) (short-length x) (x .place-columns .ensures) (step .correct-columns .ensures)
+    (summed (y .before .before .before .before)) (found-length y) (y .unknowns .ensures .solved (solved y)) (short-length x) (x .place-columns .ensures)
+    (step .correct-columns .ensures .corrected (corrections-true _ _ _ _ _ _ _ _ (step .correct-columns .ensures) (correctable step)))
 
 pub correct-level-spec : {M : Type 1} → statement M
 correct-level-spec =
@@ -256,8 +258,8 @@ correct-level-spec =
     array-share-prefix-found
     slice-aggregate-place-columns-2
     place-columns-requires
-    array-share-prefix-short
     slice-aggregate-correct-columns
+    array-share-prefix-short
     slice-aggregate-correct-columns-2
     correct-columns-requires
     same-length

@@ -4,9 +4,9 @@ use mathlib.Core.Path.{_≡_, sym, subst, _∙_}
 use mathlib.Core.Bool.{Bool}
 use mathlib.Core.List.{List}
 use mathlib.Core.Logic.{_⊎_, inl, inr}
-use Prim.Native.Nat.{ℕ, _+_, _-_, _<_, _≤_}
+use Prim.Native.Nat.{ℕ, _+_, _-_, _≤_}
 use native.Mathlib.Omega.{arith}
-use lib.ListN.{length, getD, take}
+use lib.ListN.{length, take}
 use lib.Seq.{length-take-le}
 use borrow.Author.Needs.{needs}
 use Rattle.rules.specs.declared.shapes.Shape.{Shape}
@@ -16,9 +16,8 @@ use Rattle.rules.specs.Promise.{SizesAre}
 use Rattle.rules.proofs.Accepted.{Bounds, bounds}
 use Rattle.rules.proofs.Measures.{Small, small}
 use Rattle.theory.specs.Set.{count}
-use Rattle.levels.specs.Promise.{chosen}
-use Rattle.levels.specs.Kernel.{ListedAre, ScoresAre, AnyAt}
-use Rattle.levels.proofs.Listing.{listed-small}
+use Rattle.corrections.specs.Correction.{chosen}
+use Rattle.choices.specs.Promise.{ListedAre, ScoresAre, AnyIs}
 use Rattle.levels.proofs.Steps.{LevelsDone, done-start, done-corrected, done-none, done-all}
 use Rattle.levels.proofs.level.correct_levels.Statement.{statement}
 use Rattle.levels.proofs.level.correct_levels.Tie as tie
@@ -42,31 +41,24 @@ few-chosen : (sh : Shape) (z : Sizes) (flags : List Bool) {k : ℕ} → SizesAre
 few-chosen sh z flags h e few = subst (λ n. count n (chosen flags) ≤ 4) (sym (h .n-is)) (omega (arith, few, bounds sh (h .taken) .r-most))
 
 listed-requires : tie.Need-listed-requires Inv-loop μ-loop
-listed-requires c κs = let a = c .before in (few a .n-most, few-chosen (a .args .shape) (a .args .z) (a .args .flags) (sizes a) (a .pre .1 .1 .0) (a .pre .1 .1 .1))
+listed-requires c κs = search needs
 
 -- the nodes listed and the scores are those of the shape
 nodes-are : (c : tie.After-listed Inv-loop μ-loop) → let a = c .before .before in ListedAre (a .args .shape .n) (a .args .flags) (c .listed .result)
-nodes-are c = let a = c .before .before in subst (λ n. ListedAre n (a .args .flags) (c .listed .result)) (sizes a .n-is) (c .listed .ensures)
-
-below : (c : tie.After-listed Inv-loop μ-loop) → (j : ℕ) → getD (c .listed .result) j 0 < 16
-below c = let a = c .before .before in listed-small (nodes-are c) (fits a .n-most)
+nodes-are c =
+    let a = c .before .before in
+    subst (λ n. ListedAre n (a .args .flags) (c .listed .result)) (sizes a .n-is)
+    (c .listed .ensures .few (few-chosen (a .args .shape) (a .args .z) (a .args .flags) (sizes a) (a .pre .1 .1 .0) (a .pre .1 .1 .1)))
 
 points-of-requires : tie.Need-points-of-requires Inv-loop μ-loop
-points-of-requires c κs = (below c 0, below c 1, below c 2, below c 3)
+points-of-requires c κs = search needs
 
 scores-of-requires : tie.Need-scores-of-requires Inv-loop μ-loop
-scores-of-requires c κs = let z = few (c .before .before .before) in ((z .s-some, z .nodes-most), z .l-most)
-
-as-shape : (sh : Shape) (z : Sizes) (flags : List Bool) (scores : List ℕ) → SizesAre sh z → ScoresAre (z .s) (z .m) (z .l) flags scores
-    → ScoresAre (groupSize sh) (groups sh) (rows sh) flags scores
-as-shape sh z flags scores h right =
-    subst (λ s. ScoresAre s (groups sh) (rows sh) flags scores) (h .s-is)
-    (subst (λ m. ScoresAre (z .s) m (rows sh) flags scores) (h .m-is)
-    (subst (λ l. ScoresAre (z .s) (z .m) l flags scores) (h .l-is) right))
+scores-of-requires c κs = search needs
 
 scores-are : (c : tie.After-scores-of Inv-loop μ-loop) → let a = c .before .before .before .before in
     ScoresAre (groupSize (a .args .shape)) (groups (a .args .shape)) (rows (a .args .shape)) (a .args .flags) (c .scores-of .result)
-scores-are c = let a = c .before .before .before .before in as-shape (a .args .shape) (a .args .z) (a .args .flags) (c .scores-of .result) (sizes a) (c .scores-of .ensures)
+scores-are c = c .scores-of .ensures .inside (sizes (c .before .before .before .before) .taken)
 
 loop-holds : tie.Need-loop-holds Inv-loop μ-loop
 loop-holds c = let a = c .before .before .before .before .args in (omega arith, done-start (a .shape) (fits (c .before .before .before .before)) (a .flags) (a .count) (a .stripe .now))
@@ -116,7 +108,7 @@ loop-again c =
           (sizes a .l-is)
           (scores-are x)
           (turn .loop .inv .1)
-          (subst (AnyAt (take (a .args .z .l) (x .scores-of .result)) (turn .loop .level)) (way .0 .left) (c .before .any-at .ensures))))
+          (subst (AnyIs (take (a .args .z .l) (x .scores-of .result)) (turn .loop .level)) (way .0 .left) (c .before .any-at .ensures))))
           (c .if1 .came),
     )
 

@@ -15,8 +15,9 @@ use Rattle.rules.specs.declared.shapes.Sizes.{Sizes}
 use Rattle.rules.specs.Stripe.{stripeLength}
 use Rattle.rules.specs.Promise.{SizesAre}
 use Rattle.rules.proofs.Measures.{Small, small, measured-sizes, measured-refused}
-use Rattle.yebarg.proofs.Lengths.{stripe-is}
-use Rattle.levels.specs.Promise.{chosen, NoneFrom, LevelsCorrected, Fillable}
+use Rattle.rules.proofs.Lengths.{stripe-is}
+use Rattle.corrections.specs.Correction.{chosen}
+use Rattle.levels.specs.Promise.{NoneFrom, LevelsCorrected, Fillable}
 use Rattle.levels.proofs.Nodes.{none-from}
 use Rattle.levels.proofs.Refusing.{cannot-fill, can-fill}
 use Rattle.levels.proofs.level.fill_levels.Statement.{statement}
@@ -60,16 +61,16 @@ returns-2 : tie.Need-returns-2
 returns-2 c = let z = c .before .before .before in cannot-fill _ _ _ (λ way. c .if1 .taken (way .exact ∙ sym (stripe-end z)))
 
 count-of-requires : tie.Need-count-of-requires
-count-of-requires c κs = few (c .before .before .before) .n-most
+count-of-requires c κs = search needs
 
 count-of-requires-2 : tie.Need-count-of-requires-2
-count-of-requires-2 c κs = omega (arith, few (c .before .before .before .before) .n-most)
+count-of-requires-2 c κs = search needs
 
 -- what is counted, of the shape's nodes
 counted : (c : tie.After-count-of) → let a = start (c .before .before .before .before) .args in c .count-of .result ≡ count (a .shape .n) (chosen (a .flags))
 counted c =
     let z = c .before .before .before .before in
-    c .count-of .ensures ∙ ap (λ n. count n (chosen (start z .args .flags))) (sizes z .n-is)
+    c .count-of .ensures .value ∙ ap (λ n. count n (chosen (start z .args .flags))) (sizes z .n-is)
 
 all-below : (n : ℕ) (flags : List Bool) → n ≤ 16 → NoneFrom n flags → count 16 (chosen flags) ≡ count n (chosen flags)
 all-below n flags h none = count-beyond n 16 (chosen flags) none h
@@ -83,7 +84,7 @@ returns-3 c =
       arith,
       c .if2 .taken,
       counted (both .before),
-      both .count-of2 .ensures,
+      both .count-of2 .ensures .value,
       all-below (a .shape .n) (a .flags) (omega (arith, few z .n-most, sizes z .n-is)) (way .none-above),
     ))
 
@@ -105,7 +106,7 @@ fillable c =
     record {
       taken = sizes z .taken;
       exact = both .before .before .if1 .left ∙ stripe-end z;
-      none-above = none-from (a .shape .n) (a .flags) (sixteen z) (omega (arith, c .before .before .if2 .left, counted (both .before), both .count-of2 .ensures));
+      none-above = none-from (a .shape .n) (a .flags) (sixteen z) (omega (arith, c .before .before .if2 .left, counted (both .before), both .count-of2 .ensures .value));
       few = omega (arith, c .if3 .left, counted (both .before), sizes z .r-is);
     }
 

@@ -5,7 +5,7 @@ use Prim.Native.Nat.{_-_, _*_, _%_, _^_, _≤_}
 use native.Mathlib.Nat.{one-mul, mod-eq-of-lt, one-le-pow, pow-le-pow-right}
 use native.Mathlib.Omega.{arith}
 use Rattle.rules.proofs.Measures.{Small, small}
-use Rattle.layout.specs.Pack.{others}
+use Rattle.entries.specs.Pack.{others}
 use Rattle.pack.proofs.placing.others_of.Statement.{statement}
 use Rattle.pack.proofs.placing.others_of.Tie as tie
 

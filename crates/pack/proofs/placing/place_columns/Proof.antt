@@ -12,11 +12,11 @@ use borrow.Author.Needs.{needs}
 use Rattle.rules.proofs.Measures.{Small, small}
 use Rattle.columns.proofs.Kernels.{column-within}
 use Rattle.columns.proofs.Parts.{parts-as-long}
-use Rattle.yebarg.proofs.Lengths.{stripe-is}
+use Rattle.rules.proofs.Lengths.{stripe-is}
 use Rattle.yebarg.proofs.Lists.{laid-over-all}
 use Rattle.layout.specs.declared.answers.Found.{Found}
-use Rattle.layout.specs.Pack.{has}
-use Rattle.layout.proofs.Sets.{in-set, not-in-set}
+use Rattle.entries.specs.Pack.{has}
+use Rattle.entries.proofs.Sets.{in-set, not-in-set}
 use Rattle.layout.proofs.Packs.{found-accepted, largest-pack}
 use Rattle.pack.proofs.Placings.{PlacedTo, placed-start, placed-skip, placed-within, placed-step, placed-all}
 use Rattle.pack.proofs.placing.place_columns.Statement.{statement}

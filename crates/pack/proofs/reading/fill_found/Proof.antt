@@ -15,10 +15,10 @@ use Rattle.rules.proofs.Measures.{Small, small, measured-sizes, measured-refuse
 use Rattle.rules.proofs.LostSets.{lost-below}
 use Rattle.columns.proofs.Parts.{zeros-length, front-fits, front-length}
 use Rattle.yebarg.specs.declared.answers.Outcome.{Outcome}
-use Rattle.yebarg.proofs.Lengths.{stripe-is}
+use Rattle.rules.proofs.Lengths.{stripe-is}
 use Rattle.fill.specs.Promise.{FillMeets}
 use Rattle.layout.specs.declared.answers.Found.{Found}
-use Rattle.layout.specs.Pack.{others}
+use Rattle.entries.specs.Pack.{others}
 use Rattle.pack.specs.declared.answers.Unpacked.the-variants.{Accepted}
 use Rattle.pack.specs.Kernel.{FoundMeets}
 use Rattle.pack.proofs.Owed.{refused-owed, done-owed}

@@ -3,11 +3,11 @@
 -- Assumes nothing.
 use mathlib.Core.Path.{_≡_, refl, sym, ap, ap₂, _∙_, subst}
 use mathlib.Core.Bool.{true}
-use mathlib.Core.List.{List}
+use mathlib.Core.List.{List, _++_}
 use mathlib.Core.Option.{none, some, Option·none-ne-some}
 use Prim.Native.Nat.{ℕ, _≤_, _-_, _*_, _/_}
 use native.Mathlib.Omega.{arith}
-use lib.ListN.{length, drop, replicate}
+use lib.ListN.{length, take, drop, replicate}
 use lib.Seq.{take-at}
 use borrow.Author.Needs.{needs}
 use Rattle.rules.specs.declared.shapes.Shape.{Shape}
@@ -18,14 +18,16 @@ use Rattle.rules.specs.Promise.{SizesAre}
 use Rattle.rules.proofs.Accepted.{Bounds, bounds}
 use Rattle.rules.proofs.Measures.{Small, small, measured-sizes, measured-refused}
 use Rattle.rules.proofs.RowsRead.{fraction-times}
+use Rattle.rules.proofs.Lengths.{fraction-is, sums-are, fraction-most}
 use Rattle.columns.proofs.Parts.{zeros-length, front-fits, front-length}
 use Rattle.yebarg.specs.declared.answers.Outcome.the-variants.{Done, Refused}
 use Rattle.yebarg.specs.Refusal.{notNode}
 use Rattle.yebarg.proofs.Refusals.{not-node-low, not-node-high, a-node}
 use Rattle.rebuild.specs.Refusal.{rebuildRefusal}
 use Rattle.rebuild.specs.Promise.{Rebuilt, RebuildMeets}
-use Rattle.rebuild.specs.Kernel.{RowsSolved}
-use Rattle.rebuild.proofs.Gathering.{sums-start, fraction-most, fractions-most}
+use Rattle.recover.specs.Promise.{RowsSolved, Recoverable}
+use Rattle.recover.proofs.Settled.{solve-rows-true}
+use Rattle.rebuild.proofs.Gathering.{sums-start, fractions-most}
 use Rattle.rebuild.proofs.Finding.{solved→meets}
 use Rattle.rebuild.proofs.Refusals.{rebuild-shape, rebuild-fractions, rebuild-column, rebuild-failed, rebuild-accepted}
 use Rattle.rebuild.proofs.rebuilding.rebuild.Statement.{statement}
@@ -68,8 +70,7 @@ bound : (c : tie.After-z) → Bounds (start c .args .shape)
 bound c = bounds (start c .args .shape) (sizes c .taken)
 
 part : (c : tie.After-z) → size c .l / size c .s ≡ fractionLength (start c .args .shape)
-unfolding fractionLength
-part c = ap₂ (λ (x y : ℕ). x / y) (sizes c .l-is) (sizes c .s-is)
+part c = fraction-is _ _ (sizes c)
 
 all-parts : (c : tie.After-z) → (size c .n - 1) * (size c .l / size c .s) ≡ (start c .args .shape .n - 1) * fractionLength (start c .args .shape)
 all-parts c = ap₂ (λ (x y : ℕ). (x - 1) * y) (sizes c .n-is) (part c)
@@ -79,7 +80,7 @@ abbrev end : tie.After-z → ℕ
 end c = size c .r * (size c .l / size c .s)
 
 end-is : (c : tie.After-z) → end c ≡ start c .args .shape .r * fractionLength (start c .args .shape)
-end-is c = ap₂ (λ (x y : ℕ). x * y) (sizes c .r-is) (part c)
+end-is c = sums-are _ _ (sizes c)
 
 sums-are-rows : (sh : Shape) → Bounds sh → sh .r * fractionLength sh ≡ rows sh
 unfolding groupSize
@@ -201,27 +202,33 @@ slice-aggregate-solve-rows : tie.Need-slice-aggregate-solve-rows
 slice-aggregate-solve-rows c = let x = c .before .before in sym (front-length (sums x) (rest x) (end (z-sums x)) (sums-exact x))
 
 solve-rows-requires : tie.Need-solve-rows-requires
-solve-rows-requires c κs =
-    let x = c .before .before .before in
-    let e = x .before .before .before in
-    let z = z-failed e in (
-      sizes z,
-      (
-        (failed-first e, failed-last e),
-        (front-length (sums x) (rest x) (end z) (sums-exact x) ∙ end-is z, column-right (column-test e)),
-      ),
-    )
+solve-rows-requires c κs = search needs
+
+-- it is lent what it asks for
+recoverable : (c : tie.After-add-helpers) →
+    let a = start (z-sums c) .args in
+    Recoverable (a .shape) (a .failed) (take (end (z-sums c)) (sums c ++ rest c)) (a .column .now)
+recoverable c =
+    let e = c .before .before .before in
+    let z = z-failed e in
+    record {
+      taken = sizes z .taken;
+      sums-exact = front-length (sums c) (rest c) (end z) (sums-exact c) ∙ end-is z;
+      column-exact = column-right (column-test e);
+      first = failed-first e;
+      last = failed-last e;
+    }
 
 -- the sums at the front are those of all helpers
 solved : (c : tie.After-solve-rows) →
     let x = c .before .before .before .before in
     let a = start (z-sums x) .args in
-    RowsSolved (a .shape) (a .failed) (sums x) (c .solve-rows .last .1 .1 .1 .1 .0)
+    RowsSolved (a .shape) (a .failed) (sums x) (c .solve-rows .last .1 .1 .1 .0)
 solved c =
     let x = c .before .before .before .before in
     let a = start (z-sums x) .args in
-    subst (λ xs. RowsSolved (a .shape) (a .failed) xs (c .solve-rows .last .1 .1 .1 .1 .0)) (take-at (sums x) (rest x) (end (z-sums x)) (sums-exact x))
-    (c .solve-rows .ensures)
+    subst (λ xs. RowsSolved (a .shape) (a .failed) xs (c .solve-rows .last .1 .1 .1 .0)) (take-at (sums x) (rest x) (end (z-sums x)) (sums-exact x))
+    (c .solve-rows .ensures .solved (solve-rows-true (c .solve-rows .result) (c .solve-rows .ensures) (recoverable x)))
 
 same-length : tie.Need-same-length
 same-length c =

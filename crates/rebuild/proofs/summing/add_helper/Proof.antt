@@ -8,11 +8,12 @@ use native.Mathlib.Omega.{arith}
 use lib.ListN.{length, take, drop}
 use borrow.Author.Needs.{needs}
 use Rattle.rules.proofs.Accepted.{bounds}
+use Rattle.rules.proofs.Lengths.{fraction-most}
 use Rattle.columns.proofs.Parts.{part-length}
-use Rattle.sums.specs.Promise.{Added}
+use Rattle.fractions.specs.Promise.{Added}
 use Rattle.yebarg.proofs.Refusals.{a-node}
-use Rattle.sums.proofs.Refusals.{add-accepted}
-use Rattle.rebuild.proofs.Gathering.{sums-skip, sums-step, helper-most, fraction-most, fractions-most}
+use Rattle.fractions.proofs.Refusals.{add-accepted}
+use Rattle.rebuild.proofs.Gathering.{sums-skip, sums-step, helper-most, fractions-most}
 use Rattle.rebuild.proofs.summing.add_helper.Statement.{statement}
 use Rattle.rebuild.proofs.summing.add_helper.Tie as tie
 

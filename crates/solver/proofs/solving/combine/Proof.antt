@@ -1,4 +1,4 @@
--- `solver::solving::combine` meets its contract: after t steps the column has the sum of the first t columns of sums, each times its weight.
+-- `solver::combine` meets its contract: after t steps the column has the sum of the first t columns of sums, each times its weight.
 -- Assumes nothing.
 use Rattle.columns.proofs.Kernels.{product-small, column-within}
 use Rattle.solver.proofs.Combining.{CombinedTo, combined-start, combined-step, combined-end}

@@ -1,8 +1,8 @@
--- `solver::solving::constants` meets its contract: the row solver, once for each unit.
+-- `solver::constants` meets its contract: the row solver, once for each unit.
 -- Assumes nothing.
-use Rattle.solver.specs.Solve.{Solves}
+use Rattle.systems.specs.System.{Solves}
 use Rattle.solver.specs.Kernel.{unit}
-use Rattle.solver.proofs.Indices.{four}
+use Rattle.distinct.proofs.Indices.{four}
 use mathlib.Core.List.{[], _∷_}
 use lib.ListN.{getD}
 use borrow.Author.Needs.{needs}
@@ -27,13 +27,14 @@ returns c =
     let second = third .before in
     let first = second .before in
     let a = first .before .args in
+    let way = first .before .pre in
     record {
       each =
           four (λ t. Solves (a .count) (a .points) (unit t) (getD (first .solve .result ∷ second .solve2 .result ∷ third .solve3 .result ∷ c .solve4 .result ∷ []) t []))
-          (first .solve .ensures)
-          (second .solve2 .ensures)
-          (third .solve3 .ensures)
-          (c .solve4 .ensures);
+          (first .solve .ensures .solves way)
+          (second .solve2 .ensures .solves way)
+          (third .solve3 .ensures .solves way)
+          (c .solve4 .ensures .solves way);
     }
 
 pub constants-spec : {M : Type 1} → statement M

@@ -1,4 +1,4 @@
--- `solver::solving::write` meets its contract: after j steps the columns below j are combined by their constants.
+-- `solver::write` meets its contract: after j steps the columns below j are combined by their constants.
 -- Assumes nothing.
 use Rattle.columns.proofs.Kernels.{product-small, column-within}
 use Rattle.columns.proofs.Parts.{part-length}

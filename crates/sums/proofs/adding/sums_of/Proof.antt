@@ -17,7 +17,7 @@ use Rattle.columns.proofs.Kernels.{product-small}
 use Rattle.yebarg.specs.declared.answers.Outcome.the-variants.{Refused}
 use Rattle.sums.specs.Refusal.{sumsRefusal}
 use Rattle.sums.specs.Promise.{SumsMeet}
-use Rattle.yebarg.proofs.Lengths.{stripe-is}
+use Rattle.rules.proofs.Lengths.{stripe-is}
 use Rattle.sums.proofs.Refusals.{sums-shape, sums-stripe, sums-buffer, sums-accepted}
 use Rattle.sums.proofs.Summing.{sums-clear, partial-all}
 use Rattle.sums.proofs.adding.sums_of.Statement.{statement}

@@ -12,7 +12,7 @@ use Rattle.rules.specs.Stripe.{stripeLength}
 use Rattle.rules.specs.Promise.{SizesAre}
 use Rattle.rules.proofs.Measures.{Small, small, measured-sizes, measured-refused}
 use Rattle.columns.proofs.Kernels.{product-small}
-use Rattle.yebarg.proofs.Lengths.{stripe-is}
+use Rattle.rules.proofs.Lengths.{stripe-is}
 use Rattle.columns.proofs.Parts.{zeros-length, front-fits, front-length}
 use Rattle.sums.proofs.Refusals.{test-shape, test-length, test-accepted}
 use Rattle.sums.proofs.Summing.{sums-zero, found-from, found-accepted}

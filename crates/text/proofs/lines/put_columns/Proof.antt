@@ -6,8 +6,8 @@ use mathlib.Core.Logic.{⊎-elim}
 use Prim.Native.Nat.{_-_, _<_}
 use native.Mathlib.Omega.{arith}
 use Rattle.rules.proofs.Accepted.{bounds}
-use Rattle.layout.specs.Pack.{nodesOf}
-use Rattle.layout.proofs.Sets.{nodesTo, in-set, not-in-set}
+use Rattle.entries.specs.Pack.{nodesOf}
+use Rattle.entries.proofs.Sets.{nodesTo, in-set, not-in-set}
 use Rattle.text.specs.Text.{columnLine}
 use Rattle.text.specs.Kernel.{Fits}
 use Rattle.text.proofs.Turns.{NodesPut, nodes-to, nodes-put-start, nodes-put-all, nodes-put-length, nodes-put-skip, node-fits, nodes-put-step}

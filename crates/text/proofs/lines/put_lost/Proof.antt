@@ -7,7 +7,7 @@ use native.Mathlib.Omega.{arith}
 use lib.ListN.{length}
 use borrow.Author.Needs.{needs}
 use Rattle.rules.specs.declared.shapes.Shape.{Shape}
-use Rattle.layout.specs.Pack.{nodesOf}
+use Rattle.entries.specs.Pack.{nodesOf}
 use Rattle.text.specs.Text.{letters, spacedAll}
 use Rattle.text.specs.Kernel.{Fits, Put}
 use Rattle.text.proofs.Puts.{fits-first, fits-rest, put-then}

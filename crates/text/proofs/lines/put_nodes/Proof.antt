@@ -7,8 +7,8 @@ use Prim.Native.Nat.{_-_, _<_}
 use native.Mathlib.Numerals.{add-one}
 use native.Mathlib.Omega.{arith}
 use Rattle.rules.proofs.Accepted.{bounds}
-use Rattle.layout.specs.Pack.{nodesOf}
-use Rattle.layout.proofs.Sets.{nodesTo, in-set, not-in-set}
+use Rattle.entries.specs.Pack.{nodesOf}
+use Rattle.entries.proofs.Sets.{nodesTo, in-set, not-in-set}
 use Rattle.text.specs.Text.{spaced, spacedAll}
 use Rattle.text.specs.Kernel.{Fits}
 use Rattle.text.proofs.Turns.{NodesPut, all-spaced, nodes-to}

@@ -12,7 +12,7 @@ use Rattle.rules.specs.Lost.{lostCount}
 use Rattle.rules.specs.Promise.{SizesAre}
 use Rattle.rules.proofs.Measures.{Small, small, measured-sizes, measured-refused}
 use Rattle.rules.proofs.LostSets.{no-bit-above, lost-below}
-use Rattle.layout.specs.Pack.{nodesOf}
+use Rattle.entries.specs.Pack.{nodesOf}
 use Rattle.pack.specs.declared.answers.Contents.{Contents}
 use Rattle.text.specs.Text.{refusedLine, shapeLine, lostLine, columnLine, readText, contentsRefusal, contentsText}
 use Rattle.text.specs.Kernel.{Fits, Put}

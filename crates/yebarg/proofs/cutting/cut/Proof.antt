@@ -16,6 +16,7 @@ use Rattle.rules.specs.Promise.{SizesAre}
 use Rattle.rules.proofs.Accepted.{bounds, size-some, groups-most}
 use Rattle.rules.proofs.Measures.{measured-sizes, measured-refused}
 use Rattle.rules.proofs.RowsRead.{worth-some, group-most, fraction-worth, fraction-times}
+use Rattle.rules.proofs.Lengths.{fraction-is}
 use Rattle.yebarg.specs.declared.answers.Outcome.the-variants.{Refused}
 use Rattle.yebarg.specs.Refusal.{notNode, cutRefusal}
 use Rattle.yebarg.specs.Promise.{CutMeets}
@@ -64,8 +65,7 @@ column-right : (c : tie.Else1) → length (start (z-column c) .args .column .now
 column-right c = c .if1 .left ∙ sizes (z-column c) .l-is
 
 part : (c : tie.After-z) → c .z .given .0 .0 .l / c .z .given .0 .0 .s ≡ fractionLength (start c .args .shape)
-unfolding fractionLength
-part c = ap₂ (λ (x y : ℕ). x / y) (sizes c .l-is) (sizes c .s-is)
+part c = fraction-is _ _ (sizes c)
 
 buffer-right : (c : tie.Else2) → length (start (z-buffer c) .args .fraction .now) ≡ fractionLength (start (z-buffer c) .args .shape)
 buffer-right c = c .if2 .left ∙ part (z-buffer c)

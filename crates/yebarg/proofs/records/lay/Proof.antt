@@ -19,7 +19,7 @@ use Rattle.columns.specs.Promise.{Cleared}
 use Rattle.yebarg.specs.declared.answers.Outcome.the-variants.{Refused}
 use Rattle.yebarg.specs.Refusal.{layRefusal}
 use Rattle.yebarg.specs.Promise.{LayMeets}
-use Rattle.yebarg.proofs.Lengths.{stripe-is, data-is, stripe-most, data-most}
+use Rattle.rules.proofs.Lengths.{stripe-is, data-is, stripe-most, data-most}
 use Rattle.yebarg.proofs.Lists.{cleared-zeros, laid-over}
 use Rattle.yebarg.proofs.Refusals.{lay-shape, lay-long, lay-length, lay-accepted, refused-keeps, accepted-writes}
 use Rattle.yebarg.proofs.records.lay.Statement.{statement}

@@ -19,7 +19,7 @@ use Rattle.rules.proofs.Measures as measures
 use Rattle.yebarg.specs.declared.answers.Outcome.the-variants.{Refused}
 use Rattle.yebarg.specs.Refusal.{readBackRefusal}
 use Rattle.yebarg.specs.Promise.{ReadBackMeets}
-use Rattle.yebarg.proofs.Lengths.{stripe-is, data-is, stripe-most, data-most}
+use Rattle.rules.proofs.Lengths.{stripe-is, data-is, stripe-most, data-most}
 use Rattle.yebarg.proofs.Lists.{laid-over-all}
 use Rattle.yebarg.proofs.Refusals.{read-back-shape, read-back-stripe, read-back-buffer, read-back-accepted, refused-keeps, accepted-writes}
 use Rattle.yebarg.proofs.records.read_back.Statement.{statement}
