@@ -1,3 +1,3 @@
--- What the functions of the program that answer or write something promise.
---   Promise == what each promises
+-- What the function of the program that answers something promises.
+--   Promise == what it promises
 pub mod Promise

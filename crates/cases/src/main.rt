@@ -1,16 +1,12 @@
 // Runs the entries on cases whose answers are known, and prints what came out. The file `stdout` holds what it must print. What a program prints is compared
 // and not promised: the functions that run a case and print it return nothing and lack an `ensures`.
 //
-// In order: the bench stripes of document 01; every refusal of every entry, with the lent buffers compared; every accepted shape, with a record laid and read
-// back, every node rebuilt, and every lost set of at most r columns filled.
+// In order: the bench stripes of document 01; every refusal of every entry, with the lent buffers compared.
 mod bench;
 mod printing;
 mod refusals;
-mod shapes;
-mod stripes;
 
 fn main() {
     bench::run();
     refusals::run();
-    shapes::run();
 }

@@ -35,24 +35,6 @@ pub fn list(buffer: &[u8]) {
     }
 }
 
-// The words where what they say came out, and `wrong` otherwise.
-pub fn when(right: bool, words: &[u8]) {
-    if right {
-        text(words);
-    } else {
-        text(b" wrong");
-    }
-}
-
-// The number where what it stands for came out, and `wrong` otherwise.
-pub fn number_when(right: bool, x: usize) {
-    if right {
-        number(x);
-    } else {
-        text(b" wrong");
-    }
-}
-
 // A refusal's number.
 pub fn refused(q: u8) {
     text(b" refused");
