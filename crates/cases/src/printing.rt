@@ -94,6 +94,10 @@ pub fn quotient(answer: Quotient) {
 
 // Whether every lent buffer holds what it did before.
 pub fn kept(same: bool) {
-    when(same, b", buffers kept");
+    if same {
+        text(b", buffers kept");
+    } else {
+        text(b" wrong");
+    }
     end();
 }
