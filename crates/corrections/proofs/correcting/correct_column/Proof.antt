@@ -100,7 +100,9 @@ add-correction : tie.Need-add-correction Inv-loop μ-loop
 add-correction c = record { fits = omega (arith, mate-small (c .before .before)) }
 
 array-read-correction : tie.Need-array-read-correction Inv-loop μ-loop
-array-read-correction c = mate-small (c .before .before)
+array-read-correction c =
+    let given = start (c .before .before .before .before .before) .pre .1 .0 in
+    omega (arith, mate-small (c .before .before), given .0, given .2)
 
 correction-requires : tie.Need-correction-requires Inv-loop μ-loop
 correction-requires c κs = search needs
