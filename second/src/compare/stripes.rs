@@ -1,7 +1,7 @@
 //! Stripes to compare with: one whole stripe a shape, found by elimination, and stripes whose lowest failing equation is chosen.
 
 use super::random::Random;
-use super::report::{in_two_threads, same};
+use super::report::{count, in_two_threads, same, Report};
 use crate::elimination::Solutions;
 use crate::equations::{test, Tested};
 use crate::filling::{fill_parity, parity_set, solve_lost, write_lost};
@@ -13,6 +13,17 @@ use std::sync::Mutex;
 pub struct Whole {
     pub shape: Shape,
     pub stripe: Vec<u8>,
+}
+
+/// The first test of a comparison: the whole stripes that the others compare with, one a shape.
+pub fn stripes_to_compare(report: &mut Report, seed: u64) -> Vec<Whole> {
+    let mut stripes = Vec::new();
+    report.test("whole stripes", || {
+        stripes = whole_stripes(seed)?;
+        count("whole stripes", 38, stripes.len())?;
+        Ok(format!("{} whole stripes, one a shape, by elimination", stripes.len()))
+    });
+    stripes
 }
 
 /// One whole stripe of each accepted shape: random data, parity by elimination, tested by every equation.

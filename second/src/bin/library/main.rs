@@ -10,8 +10,8 @@ mod shapes;
 mod stack;
 mod stripes;
 
-use second::compare::report::{count, Report};
-use second::compare::stripes::whole_stripes;
+use second::compare::report::Report;
+use second::compare::stripes::stripes_to_compare;
 use std::process::ExitCode;
 
 /// The seed of the first test. Each other test adds its place in the list.
@@ -23,13 +23,7 @@ const TESTS: usize = 26;
 fn main() -> ExitCode {
     println!("the library against second, seed {SEED}");
     let mut report = Report::default();
-    let mut stripes = Vec::new();
-    report.test("whole stripes", || {
-        stripes = whole_stripes(SEED)?;
-        count("whole stripes", 38, stripes.len())?;
-        Ok(format!("{} whole stripes, one a shape, by elimination", stripes.len()))
-    });
-    let stripes = &stripes[..];
+    let stripes = &stripes_to_compare(&mut report, SEED)[..];
     report.test("bench cases", stripes::bench_cases);
     report.test("shapes and sizes", shapes::shapes_and_sizes);
     report.test("shape numbers", shapes::shape_numbers);

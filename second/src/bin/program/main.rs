@@ -6,8 +6,8 @@ mod packs;
 mod stored;
 
 use child::Program;
-use second::compare::report::{count, Report};
-use second::compare::stripes::whole_stripes;
+use second::compare::report::Report;
+use second::compare::stripes::stripes_to_compare;
 use std::path::PathBuf;
 use std::process::ExitCode;
 
@@ -26,13 +26,7 @@ fn main() -> ExitCode {
     let program = &Program::new(path.clone());
     println!("the program against second, seed {SEED}");
     let mut report = Report::default();
-    let mut stripes = Vec::new();
-    report.test("whole stripes", || {
-        stripes = whole_stripes(SEED)?;
-        count("whole stripes", 38, stripes.len())?;
-        Ok(format!("{} whole stripes, one a shape, by elimination", stripes.len()))
-    });
-    let stripes = &stripes[..];
+    let stripes = &stripes_to_compare(&mut report, SEED)[..];
     report.test("as printed", || packs::as_printed(program));
     report.test("corpus", || stored::corpus_folder(program, folder));
     report.test("whole packs", || packs::whole(program, stripes, SEED + 1));
