@@ -1,6 +1,6 @@
 -- What each function of the program that answers or writes something promises. `later` is what a buffer holds when the function returns.
 --   record_byte i == the byte at index i of the record that is laid
---   old_byte i    == the byte at index i of a buffer that is to be written
+--   old_byte i   == the byte at index i of a buffer that is to be written
 --   byte_for given size i == the byte at index i of a stripe: of the record below `given`, 0 from there up to `size`, an old byte after that
 --   Made given size before later == `make`: those bytes, over the whole buffer
 --   Spoilt l lost before later == `spoil`: old bytes in the lost columns, of l bytes each; the others are kept

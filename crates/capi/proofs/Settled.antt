@@ -2,7 +2,7 @@
 -- results that one promise allows are equal. And for each, wrong answers that the promise rules out, at the bench stripes; 515 is the shape of n = 3, r = 2.
 -- In order: what answers hold; shapes and sizes; records; one node's column; parity, filling; testing; packs.
 --   whole_in, row_in, t_in == what an answer of a test holds, as the numbers say it
---   shape_in, lost_in     == what an answer of the pack reader holds
+--   shape_in, lost_in   == what an answer of the pack reader holds
 use mathlib.Core.Path.{◌≡◌, refl, sym, ap, subst, ◌∙◌}
 use mathlib.Core.Bool.{true, false}
 use mathlib.Core.List.{List, [], ◌∷◌}

@@ -2,10 +2,10 @@
 -- when the function returns.
 --   ShapeIs n r shape == `przytulisz_shape`: the number of the shape
 --   SizesMeet     == `przytulisz_sizes`: k, m, s and l of an accepted shape; else refusal 1, and nothing is written
---   tested_of      == the answer of a test that the numbers say: 0 with 1 in `whole`, 0 with another number there, or a refusal
+--   tested_of     == the answer of a test that the numbers say: 0 with 1 in `whole`, 0 with another number there, or a refusal
 --   TestCodeMeets == `przytulisz_test`: what the entry promises of the answer that the numbers say; where the stripe is whole row and t are kept, and a refusal
 --                    writes nothing
---   read_of        == the answer of the pack reader that the numbers say
+--   read_of       == the answer of the pack reader that the numbers say
 --   ReadCodeMeets == `przytulisz_read_pack`: what the entry promises of the answer that the numbers say, whose shape and lost set are written; a refusal
 --                    writes nothing
 use Rattle.std.specs.Prelude.{◌≡◌, cond, List, ◌⊎◌, ℕ, eqb}

@@ -1,7 +1,7 @@
 -- What stands where in a pack, by blocks of eight bytes. In order: where columns and nodes stand, in numbers; a number in four bytes; a block; lists
 -- that agree in their first blocks; the blocks of a `packed_nodes`, which are its header and its entries; a list of bytes with these blocks is that
 -- `packed_nodes`.
---   eight_bytes a b c d x     == the bytes a, b, c and d, and the number x in four bytes
+--   eight_bytes a b c d x    == the bytes a, b, c and d, and the number x in four bytes
 --   Block l at a b c d x     == these stand in l from index `at` on
 --   Stands sh nodes pack     == header and entries of the shape and the nodes stand in the pack
 use mathlib.Core.Path.{◌≡◌, refl, sym, ap, ◌∙◌}

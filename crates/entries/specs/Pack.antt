@@ -1,22 +1,22 @@
 -- The pack file: document 01, "The pack file". Header, entries, columns; all numbers little-endian.
---   header_length  == 8, how many bytes the header has
---   entry_length   == 8, how many an entry has
+--   header_length == 8, how many bytes the header has
+--   entry_length  == 8, how many an entry has
 --   has set i     == node i, which is 1 or more, is in a set of nodes, be it the held or the lost ones: bit i − 1 of the number, as `is_lost` reads it
 --   nodes_of sh set == the nodes 1 to n of a set, in rising order
 --   others sh set == the other nodes of 1 to n, of a set without a bit above n: nodes not held are lost, nodes not lost are held
 --   columns_of sh set stripe == the stripe's columns at the nodes of the set, end to end in rising node order
---   four_bytes x   == x, below 2 to the power 32, in four bytes, the lowest first
---   entry_at e     == where entry e begins, e from 0: 8 + 8 × e
---   columns_at p   == where the first column begins, after p entries: 8 + 8 × p
+--   four_bytes x  == x, below 2 to the power 32, in four bytes, the lowest first
+--   entry_at e    == where entry e begins, e from 0: 8 + 8 × e
+--   columns_at p  == where the first column begins, after p entries: 8 + 8 × p
 --   offset_of sh p e == where the column of entry e begins, e from 0: the columns follow without gaps in entry order
---   total_of sh p  == the total length: 8 + 8 × p + p × l
+--   total_of sh p == the total length: 8 + 8 × p + p × l
 --   header sh p   == n, r, the count p of columns held, zero, the total in four bytes
 --   entry i at    == node i, three zero bytes, its offset in four bytes
 --   entries_from sh p e nodes == the entries of these nodes, the first of them being entry e of the p
 --   packed_nodes sh nodes columns == header, entries of these nodes, columns
 --   packed sh held columns == the pack of a shape, a held set, and the columns of the nodes held, end to end in rising node order
---   largest_pack   == 4,232, how long the largest pack is
---   input_most     == 4,233, how much of its input the program reads, which shows excess
+--   largest_pack  == 4,232, how long the largest pack is
+--   input_most    == 4,233, how much of its input the program reads, which shows excess
 -- A pack's entries rise, and have each node once: document 01's refusal 7.
 use Rattle.std.specs.Prelude.{Bool, ◌&&◌, ℕ, suc, ◌+◌, ◌-◌, ◌*◌, ◌/◌, ◌%◌, ◌^◌, leb, length}
 use mathlib.Core.List.{List, [], ◌∷◌, ◌++◌, flat_map}

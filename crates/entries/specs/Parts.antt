@@ -1,14 +1,14 @@
 -- What stands where in a pack, whatever its bytes are. A byte past the end reads 0, and no check reads one there: the refusals 6 come before.
---   byte_at pack j   == byte j
+--   byte_at pack j  == byte j
 --   number_at pack j == the number in the four bytes from j on, the lowest first
---   shape_in pack    == the header's n and r
---   count_in pack    == the header's count p of columns held
---   total_in pack    == the header's total length
---   node_in pack e   == entry e's node
+--   shape_in pack   == the header's n and r
+--   count_in pack   == the header's count p of columns held
+--   total_in pack   == the header's total length
+--   node_in pack e  == entry e's node
 --   padded_in pack e == the three bytes after the node are 0
 --   offset_in pack e == entry e's offset
 --   node_before pack e == the node of the entry before entry e; 0 before the first
---   nodes_in pack p  == the nodes of the first p entries
+--   nodes_in pack p == the nodes of the first p entries
 use Rattle.std.specs.Prelude.{Bool, ◌&&◌, List, map, ℕ, zero, suc, ◌+◌, ◌*◌, eqb, get_or}
 use Rattle.rules.specs.declared.shapes.Shape.{Shape}
 use Rattle.rules.specs.Rising.{up_to}

@@ -1,5 +1,5 @@
 -- What each function promises, for every input.
---   is_shorter pack       == the pack is shorter than its header and its entries
+--   is_shorter pack      == the pack is shorter than its header and its entries
 --   ShorterIs pack answer == `shorter`: true exactly so
 --   FirstBadIs pack e == `first_bad_entry`: the first bad entry, counted from 1, or 0; of one that is shorter it is 1
 --   EntriesGood pack == the entries are there, n is at most sixteen, and no entry is bad

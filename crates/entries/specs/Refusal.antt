@@ -1,12 +1,12 @@
 -- The refusals of reading the layout, in the pack reader's own order: document 01, "Refusals in order".
 --   first_from test e more == the first of the entries e, e + 1, .., e + more − 1 that the test holds of, counted from 1; 0 where it holds of none
---   bad_entry pack e    == 7: entry e's node isn't 1 to n, isn't above the one before, or its padding isn't 0
+--   bad_entry pack e   == 7: entry e's node isn't 1 to n, isn't above the one before, or its padding isn't 0
 --   first_bad_entry pack == the first such entry, counted from 1; 0 where there is none
---   wrong_total pack    == 8: the total isn't 8 + 8 × p + p × l
+--   wrong_total pack   == 8: the total isn't 8 + 8 × p + p × l
 --   wrong_offset pack e == 8: entry e's offset isn't where its column begins
 --   first_wrong_offset pack == the first such entry, counted from 1; 0 where there is none
---   wrong_length pack   == 8: the input's length isn't the total
---   layout_checks pack  == 6, length under 8, byte 3; 1; 6, more columns than n, input shorter than its entries; 7, over all entries; 8, total, offsets,
+--   wrong_length pack  == 8: the input's length isn't the total
+--   layout_checks pack == 6, length under 8, byte 3; 1; 6, more columns than n, input shorter than its entries; 7, over all entries; 8, total, offsets,
 --                         input length
 --   layout_refusal pack == the first of these that applies
 use Rattle.std.specs.Prelude.{Bool, not, cond, ◌||◌, List, [], ◌∷◌, ℕ, zero, suc, eqb, ltb, leb, length}

@@ -2,7 +2,7 @@
 -- that the promise rules out, at the bench stripes; n = 3, r = 2. In order: `fill`; the stripes A and B as what is filled in; wrong answers of `fill`;
 -- `fill_parity`, and its wrong answers.
 --   stripe_a, stripe_b == bench stripes A and B: data and both parity columns
---   given_a, given_b   == the same with sevens in both parity columns
+--   given_a, given_b == the same with sevens in both parity columns
 --   MeetsA, MeetsB   == what `fill` promises of these, with columns 2 and 3 lost
 --   ParityA, ParityB == what `fill_parity` promises of these
 use mathlib.Core.Path.{◌≡◌, refl, sym, ap, ◌∙◌}

@@ -1,6 +1,6 @@
 -- The refusals of each entry, in document 01's order. Refusal 5, the survivors belong to no whole stripe, comes after those of `fill_refusal` and is said
 -- in `Promise`.
---   fill_refusal   == of `fill`, 1 to 4: shape; stripe; a lost bit above n; more than r lost
+--   fill_refusal  == of `fill`, 1 to 4: shape; stripe; a lost bit above n; more than r lost
 --   parity_refusal == of `fill_parity`: shape; stripe
 use Rattle.std.specs.Prelude.{not, List, [], ◌∷◌, ℕ, eqb, ltb, length}
 use Rattle.std.proofs.Math.Option.{Option}

@@ -1,9 +1,9 @@
 -- The rows read, by their positions in rising order: `row_at s w u j` is the j-th row with the digit u where a 1 counts w. In order: a number with one
 -- digit set; the digit and the position of such a row; its digits below and above that one, which are digits of its position; the same of an accepted
 -- shape; the rows read for a node.
---   with_part s w a u  == the number a with the digit that counts w set to u
---   worth_left sh v g  == what a 1 as group g's digit counts in the position of a row read for a node of group v
---   row_of sh f j      == the j-th row read for node f
+--   with_part s w a u == the number a with the digit that counts w set to u
+--   worth_left sh v g == what a 1 as group g's digit counts in the position of a row read for a node of group v
+--   row_of sh f j     == the j-th row read for node f
 use mathlib.Core.Path.{◌≡◌, refl, sym, ap, ap₂, ◌∙◌}
 use mathlib.Core.Bool.{Bool, true, false, cond}
 use Prim.Native.Nat.{ℕ, suc, ◌+◌, ◌-◌, ◌*◌, ◌/◌, ◌%◌, ◌^◌, ◌<◌, ◌≤◌}

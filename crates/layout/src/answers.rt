@@ -2,7 +2,7 @@
 use rules::Shape;
 
 // What a well-formed pack holds.
-#[derive(Drop)]
+#[derive(Clone, Copy)]
 pub struct Found {
     pub shape: Shape,
     // The nodes held: bit i − 1 for node i.
@@ -12,7 +12,7 @@ pub struct Found {
 }
 
 // The answer of `read_layout`.
-#[derive(Drop)]
+#[derive(Clone, Copy)]
 pub enum Layout {
     // The pack is well formed.
     Accepted(Found),

@@ -2,7 +2,7 @@
 -- promise rules out, at bench stripe C with columns 1 and 2 chosen; n = 3, r = 2. In order: what can be filled is filled; both results; what fills by r
 -- equations is allowed; the wrong answers.
 --   both, three == columns 1 and 2 chosen; columns 1, 2 and 3 chosen
---   given_c      == bench stripe C with sevens in columns 1 and 2
+--   given_c     == bench stripe C with sevens in columns 1 and 2
 --   FilledC     == what is promised of these
 use mathlib.Core.Path.{◌≡◌, refl, sym, ap, subst, ◌∙◌}
 use mathlib.Core.Bool.{Bool, true, false, true≢false}

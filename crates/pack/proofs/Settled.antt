@@ -2,8 +2,8 @@
 -- promise rules out, at document 01's worked pack and the bench stripes; n = 3, r = 2. In order: two results; an
 -- input that is longer than what is read of it; the worked pack; wrong answers of it; K
 -- and J, which are refused with 5; no columns, which is refused with 4; a refusal that writes; the order of the refusals.
---   pack_k    == columns 1 and 3 of the stripe tested in J, which is K
---   pack_j    == all three columns of it
+--   pack_k   == columns 1 and 3 of the stripe tested in J, which is K
+--   pack_j   == all three columns of it
 --   pack_none == no column
 use mathlib.Core.Path.{◌≡◌, refl, sym, ap, subst, ◌∙◌}
 use mathlib.Core.Bool.{true, false}

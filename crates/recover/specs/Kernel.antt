@@ -1,6 +1,6 @@
 -- What the private functions do, each byte said.
 --   PointsAre sh first points == `points_after`: what `point` answers for the four nodes after node `first`
---   position_of s w a          == how many rows with a's digit where a 1 counts w come before row a
+--   position_of s w a         == how many rows with a's digit where a 1 counts w come before row a
 --   Put s w size found before later == `put_rows`: at row a stands what `found` has in the column of the row's digit, at the row's position
 use Rattle.std.specs.Prelude.{◌≡◌, List, ℕ, ◌+◌, ◌*◌, ◌/◌, ◌%◌, ◌<◌, length, get_or}
 use Rattle.rules.specs.declared.shapes.Shape.{Shape}

@@ -3,17 +3,17 @@
 -- table; the shape of A to D and H to J; cases by name; the phantom's weight.
 --   each f l           == every number of the list l passes f
 --   listed a l         == a is one of the list l
---   eq_list x y         == the lists x and y are equal
---   eq_refusal x y      == the refusals x and y are equal
+--   eq_list x y        == the lists x and y are equal
+--   eq_refusal x y     == the refusals x and y are equal
 --   zeros sh C a n     == the sums of row a are 0 for every t below n
 --   meets sh C a       == row a meets its equations
 --   lower sh C rs a    == of the rows rs, those below a meet their equations
 --   lowest sh C rs a t == of the rows rs, a is the lowest that fails, and t the lowest in it
---   are_bytes n list    == the list is n bytes
+--   are_bytes n list   == the list is n bytes
 --   accepts sh         == the shape is accepted
---   is_node sh f        == f is 1 to n
+--   is_node sh f       == f is 1 to n
 --   check c            == the test of case c
---   check_all cs        == every case of cs passes its test
+--   check_all cs       == every case of cs passes its test
 use mathlib.Core.Path.{◌≡◌, refl, ap, ap₂}
 use mathlib.Core.Bool.{Bool, true, false, not, ◌&&◌, ◌||◌}
 use mathlib.Core.List.{List, [], ◌∷◌, ◌++◌}

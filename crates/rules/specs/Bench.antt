@@ -3,8 +3,8 @@
 --   Claim case == what the case says, in the rules' own words; of parity columns and of a rebuilt column also that no other bytes will do
 --   AllHold t  == the claim of each case of the table t
 --   shape n r  == the shape with n nodes and r parity nodes
---   stripe_c    == bench stripe C: data and both parity columns
---   stripe_j    == the stripe tested in J: bench stripe A with its last byte wrong
+--   stripe_c   == bench stripe C: data and both parity columns
+--   stripe_j   == the stripe tested in J: bench stripe A with its last byte wrong
 --   table      == the cases A to J
 use Rattle.std.specs.Prelude.{◌≡◌, List, [], ◌∷◌, ◌++◌, ℕ, ◌-◌, ◌*◌}
 use Rattle.std.proofs.Math.Option.{none, some}

@@ -2,12 +2,12 @@
 --   weighed o own other == the weight by its three cases, o being how the place u compares with the digit a_v
 --   weight sh C a i     == the weight at row a of node i, place u of group v. The other symbol is that of the node at place a_v of group v, taken at
 --                          the row that is a with digit v set to u
---   sum_below n f        == f 0 + f 1 + .. + f (n − 1), + being the field's `add`
---   sum_to n f           == f 1 + f 2 + .. + f n
+--   sum_below n f       == f 0 + f 1 + .. + f (n − 1), + being the field's `add`
+--   sum_to n f          == f 1 + f 2 + .. + f n
 --   equation sh C a t   == the sum, over i = 1 to m × s, of point i to the power t times the weight of node i at row a
 --   MeetsRow sh C a     == row a meets its equations: for every t from 0 to r − 1 that sum is 0
 --   Whole sh stripe     == every row of the stripe meets its equations. Its length, and that its numbers are bytes, are said by `IsBytes`, not here
---   all_rows sh          == the rows 0 to l − 1
+--   all_rows sh         == the rows 0 to l − 1
 --   LowestFailure sh C listed a t == of the rows listed, a is the lowest that fails, and t the lowest in it
 use Rattle.std.specs.Prelude.{◌≡◌, List}
 use Prim.Native.Nat.{ℕ, zero, suc, ◌*◌, ◌<◌, compare, Ordering}

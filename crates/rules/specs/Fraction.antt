@@ -1,12 +1,12 @@
 -- Fractions and rebuilding: document 01, "Fractions and rebuilding". The failed node f is place u of group v.
---   is_read sh f a       == row a is read to rebuild node f: a_v = u
---   rows_read sh f       == the rows read, in rising order
---   fraction_length sh   == l / s
+--   is_read sh f a      == row a is read to rebuild node f: a_v = u
+--   rows_read sh f      == the rows read, in rising order
+--   fraction_length sh  == l / s
 --   fraction sh f col   == what a node with the column col gives to rebuild node f: its symbols at the rows read, in rising row order
 --   helpers sh f        == the nodes 1 to n other than f, in rising order
 --   end_to_end sh f parts == what these nodes give, laid end to end in that order
---   cut_all sh f stripe  == the fractions of all columns of the stripe but f's, laid end to end
---   helper_before f i    == how many nodes other than f come before node i, which isn't f
+--   cut_all sh f stripe == the fractions of all columns of the stripe but f's, laid end to end
+--   helper_before f i   == how many nodes other than f come before node i, which isn't f
 --   fraction_of sh f fractions i == the fraction of node i, out of all fractions end to end in rising node order
 --   arrived sh f fractions col == the symbols that the rebuilder knows: of node f the column col, of another node its fraction at the rows read (at
 --                          row a the byte with as many before it as rows read come before a). A phantom holds 0; so does what isn't lent, which no

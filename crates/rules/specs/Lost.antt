@@ -1,8 +1,8 @@
 -- The lost set, and what filling means: document 01, "Filling lost columns".
---   is_lost lost i    == node i, which is 1 or more, is lost: bit i − 1 of the 16-bit number is a one
---   lost_count lost   == how many are lost: the count of its ones
+--   is_lost lost i   == node i, which is 1 or more, is lost: bit i − 1 of the 16-bit number is a one
+--   lost_count lost  == how many are lost: the count of its ones
 --   bit_above sh lost == a lost bit is above n
---   is_parity sh i    == node i, of the nodes 1 to n, is a parity node: one of k + 1 to n (above n it isn't asked)
+--   is_parity sh i   == node i, of the nodes 1 to n, is a parity node: one of k + 1 to n (above n it isn't asked)
 --   Filled sh L stripe later == `later` is n × l bytes, has the columns of the stripe outside the set L, which are its survivors, and is whole
 use Rattle.std.specs.Prelude.{◌≡◌, Bool, false, not, List, ℕ, ◌-◌, ◌/◌, ◌%◌, ◌^◌, ◌≤◌, eqb, ltb}
 use Rattle.std.specs.Int.Count.{ones}

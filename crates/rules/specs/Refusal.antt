@@ -1,8 +1,8 @@
 -- Refusals in order: document 01, "Refusals in order". The first that applies is given, and none is given otherwise.
 --   Check             == a refusal's number, with the test that says that it applies
 --   q given-when b    == refusal q, which applies where the test b holds
---   first_of checks    == the number of the first of these that applies, or none
---   shape_refusal sh   == of a shape alone: 1, shape not accepted
+--   first_of checks   == the number of the first of these that applies, or none
+--   shape_refusal sh  == of a shape alone: 1, shape not accepted
 use Rattle.std.specs.Prelude.{Bool, cond, not, List, [], ◌∷◌, ℕ}
 use Rattle.std.proofs.Math.Option.{Option, none, some}
 use Rattle.rules.specs.declared.shapes.Shape.{Shape}

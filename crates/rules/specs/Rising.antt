@@ -1,6 +1,6 @@
 -- Lists of numbers in rising order.
 --   rising n L    == the numbers below n that pass the test L, in rising order: 0 .. n - 1, filtered
---   up_to n        == 0, 1, .., n - 1
+--   up_to n       == 0, 1, .., n - 1
 --   Listed a list == a is one of the list
 use Rattle.std.specs.Prelude.{◌≡◌, Bool, true, cond, List, [], ◌∷◌, ◌++◌, ◌⊎◌, ℕ, zero, suc}
 

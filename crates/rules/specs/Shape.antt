@@ -1,6 +1,6 @@
 -- The shape of a stripe: document 01, "Shape". `Shape` is the struct of the code: its n is the number of nodes, its r that of parity nodes.
---   group_size sh  == s, how many nodes a group has: r
---   data_nodes sh  == k = n − r
+--   group_size sh == s, how many nodes a group has: r
+--   data_nodes sh == k = n − r
 --   groups sh     == m, n / s rounded up
 --   rows sh       == l, s to the power m
 --   accepted sh   == r from 2 to 4, n from r + 1 to 16, l at most 256

@@ -1,15 +1,15 @@
 -- A stripe is n columns of l bytes, node 1 first: document 01, "Shape".
 --   IsBytes n list       == the list is n bytes: n numbers below 256
---   stripe_length sh      == n × l
---   data_length sh        == k × l, the length of the data columns, which are the first
---   column_start sh i     == column i starts at (i − 1) × l
+--   stripe_length sh     == n × l
+--   data_length sh       == k × l, the length of the data columns, which are the first
+--   column_start sh i    == column i starts at (i − 1) × l
 --   column sh stripe i   == column i: that part of the stripe
 --   Symbols              == what node i, from 1, holds at row a, from 0
 --   symbol sh stripe i a == the symbol of node i at row a: 0 where i is a phantom, else the byte of column i at row a
 --   laid sh rec stripe   == the record in the data columns in order, zero bytes after it, and the parity columns as they were
---   read_back sh stripe   == the record read back: the stripe's first k × l bytes
---   plus_bytes x y        == the sum of two buffers of one length, byte by byte, in the field
---   times_bytes c x       == a buffer times the number c, byte by byte, in the field
+--   read_back sh stripe  == the record read back: the stripe's first k × l bytes
+--   plus_bytes x y       == the sum of two buffers of one length, byte by byte, in the field
+--   times_bytes c x      == a buffer times the number c, byte by byte, in the field
 -- A definition here takes any list of numbers, and reads 0 past its end: that a list is a stripe's bytes is said by `IsBytes (stripe_length sh)`. The
 -- entries are lent bytes, and test each length.
 use Rattle.std.specs.Prelude.{◌≡◌, cond, ℕ, ◌+◌, ◌-◌, ◌*◌, ◌<◌, length, get_or, take, drop, replicate}

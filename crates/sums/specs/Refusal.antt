@@ -1,6 +1,6 @@
 -- The refusals of each function, in document 01's order: the first that applies is given, and none otherwise.
---   test_refusal     == of `test`: shape; stripe
---   sums_refusal     == of `sums_of`: shape; stripe; buffer of r × l
+--   test_refusal    == of `test`: shape; stripe
+--   sums_refusal    == of `sums_of`: shape; stripe; buffer of r × l
 use Rattle.std.specs.Prelude.{not, List, [], ◌∷◌, ℕ, ◌*◌, eqb, length}
 use Rattle.std.proofs.Math.Option.{Option}
 use Rattle.rules.specs.declared.shapes.Shape.{Shape}

@@ -1,5 +1,5 @@
 // What a division answers. specs/Promise.antt says what each case means: `QuotientIs`.
-#[derive(Drop)]
+#[derive(Clone, Copy)]
 pub enum Quotient {
     // The quotient.
     Number(u8),

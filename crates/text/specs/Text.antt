@@ -1,12 +1,12 @@
 -- The text that the program prints: document 01, "The pack file". Every line ends in a newline.
 --   letters s      == a word, letter by letter in ASCII
---   digit_of d      == a digit, 0 to 9, in ASCII
+--   digit_of d     == a digit, 0 to 9, in ASCII
 --   decimal x      == x, below 1,000, in decimal
 --   spaced x       == a space, and x in decimal
 --   spaced_all list == each number of a list so
 --   line word rest == a line: a word, what follows it, the newline
---   refused_line q  == `refused` and the number
---   shape_line sh   == `shape`, n, r, l
+--   refused_line q == `refused` and the number
+--   shape_line sh  == `shape`, n, r, l
 --   spaced_or_none nodes == what follows `lost`: the nodes, or `none` where there are none
 --   lost_line sh lost == `lost` and the lost nodes rising, or `none`
 --   column_line sh stripe i == `column`, the node's number, its l bytes
@@ -16,7 +16,7 @@
 --   contents_text refused contents stripe == these lines, or that refusal
 --   printed answer stripe == the text of an answer of the pack reader and of the stripe that it wrote. What is answered without a refusal and no reader
 --                     answers is printed as the refusal that it calls for; a refusal's number is printed whatever it is
---   longest_text    == 4,168, how long the longest text is: `shape 16 4 256`, `lost 13 14 15 16`, and four columns of 256 bytes of three digits
+--   longest_text   == 4,168, how long the longest text is: `shape 16 4 256`, `lost 13 14 15 16`, and four columns of 256 bytes of three digits
 use Rattle.std.specs.Prelude.{cond, not, ℕ, ◌+◌, ◌/◌, ◌%◌, ltb}
 use mathlib.Core.List.{List, [], ◌∷◌, ◌++◌, flat_map}
 use Rattle.std.proofs.Math.Option.{Option, none, some}

@@ -1,6 +1,6 @@
 -- Free groups and good rows, so that filling and rebuilding are one theorem. The nodes of a free group stand alone: their weight is their own symbol.
 -- Filling has no free group and every row; rebuilding frees the failed node's group and has the rows read. Good rows are of uniqueness alone.
---   no_group               == no group is free
+--   no_group              == no group is free
 --   weight_free c free C a i == the weight of node i at row a; in a free group the own symbol
 --   MeetsFree c k free C a == row a meets its first k equations, with these weights
 --   Closed c free good    == with a row the mate rows are good, but those of free groups

@@ -1,6 +1,6 @@
 -- Filling level by level: the rows of score n are settled once those of a lower score are.
 --   Level c k free L B n E  == E has B's symbols outside L, and the rows of a score below n meet their equations
---   symbol_off, symbol_of     == the symbol of a lost node off the row's digit, and of any; w and w' are its and its mate's weight, y the mate's symbol
+--   symbol_off, symbol_of   == the symbol of a lost node off the row's digit, and of any; w and w' are its and its mate's weight, y the mate's symbol
 --   symbol_from c free L E x a i == the symbol of the lost node i at row a, from the weights x of lost nodes and the kept symbols of E
 --   Stepped c k free L n E x E' == x solves the rows of score n, and E' is E with the symbols so found stored at those rows
 use Rattle.std.specs.Prelude.{◌≡◌, Bool, true, false, cond, not}

@@ -2,7 +2,7 @@
 --   IsRead s f a         == row a is read for the failed node f: its digit at f's group is f's place
 --   MeetsRead c r f G x  == the column x at node f, with the fractions G elsewhere, meets the r equations of every row read
 --   known c t f G a      == the shares of all columns but f's in equation t of row a
---   in_group_of s f i      == node i is in f's group
+--   in_group_of s f i    == node i is in f's group
 --   HoldsGroup c f U     == the lost set U holds f's group
 --   Helps s f U i        == node i is asked for its fraction: it is not f, and is in f's group or outside the lost set U
 --   Rebuilds c r f U G D == D has the fractions G of the nodes asked, and meets the r equations of every row read

@@ -1,6 +1,6 @@
 -- The weight of a node at a row: document 01, "The equations"; source 000, (3) and (4), gathered by point.
---   mate_node s a i      == the node of i's group at the place that row a's digit names
---   mate_row s a i       == row a with the group's digit set to i's place
+--   mate_node s a i     == the node of i's group at the place that row a's digit names
+--   mate_row s a i      == row a with the group's digit set to i's place
 --   side s a i          == how node i's place compares with row a's digit of its group
 --   weighed c o own other == the weight by its three cases, o being how the place compares with the digit
 --   weight c C a i      == the weight of node i at row a in the stripe C

@@ -1,5 +1,5 @@
 -- What the private functions over the bytes of columns do, each byte said: s is the size of a group, w what a 1 as the group's digit counts (`worth`).
---   row_at s w u j        == the row that has u as the digit that counts w, and j such rows before it
+--   row_at s w u j       == the row that has u as the digit that counts w, and j such rows before it
 --   Taken s w u col before later == `take_rows`: the column's bytes at these rows
 use Rattle.std.specs.Prelude.{◌≡◌, List, ℕ, ◌+◌, ◌*◌, ◌/◌, ◌%◌, ◌<◌, length, get_or}
 

@@ -1,8 +1,8 @@
 -- The refusals of each entry, in document 01's order: the first that applies is given, and none otherwise.
---   not_node sh i    == i isn't 1 to n
---   lay_refusal      == of `lay`: shape; record longer than k × l; stripe
+--   not_node sh i   == i isn't 1 to n
+--   lay_refusal     == of `lay`: shape; record longer than k × l; stripe
 --   read_back_refusal == of `read_back`: shape; stripe; buffer
---   cut_refusal      == of `cut`: shape; column; buffer; helper; failed node; the failed node's own fraction
+--   cut_refusal     == of `cut`: shape; column; buffer; helper; failed node; the failed node's own fraction
 use Rattle.std.specs.Prelude.{Bool, not, ◌||◌, List, [], ◌∷◌, ℕ, eqb, ltb, length}
 use Rattle.std.proofs.Math.Option.{Option}
 use Rattle.rules.specs.declared.shapes.Shape.{Shape}

@@ -1,7 +1,7 @@
 // What the entries answer. specs/Answer.antt gives document 01's number and values for each case.
 
 // The answer of an entry that only writes.
-#[derive(Drop)]
+#[derive(Clone, Copy)]
 pub enum Outcome {
     // It is written.
     Done,
