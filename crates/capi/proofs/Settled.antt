@@ -7,7 +7,7 @@ use mathlib.Core.Path.{◌≡◌, refl, sym, ap, subst, ◌∙◌}
 use mathlib.Core.Bool.{true, false}
 use mathlib.Core.List.{List, [], ◌∷◌}
 use mathlib.Core.Logic.{◌⊎◌, inl, inr}
-use mathlib.Core.Option.{Option, none, some, none-ne-some, some-ne-none, some-injective}
+use mathlib.Core.Option.{none, some, none-ne-some, some-ne-none, some-injective}
 use Prim.Native.Nat.{ℕ}
 use native.Mathlib.Decide.{ℕ_discrete}
 use native.Mathlib.Omega.{arith}
@@ -22,7 +22,6 @@ use Rattle.rules.specs.Bench.{stripe_c, stripe_j}
 use Rattle.rules.proofs.Accepted.{refusal-cases}
 use Rattle.rules.proofs.Benches.{fails-j}
 use Rattle.rules.proofs.Weighing.{lowest-only}
-use Rattle.yebarg.specs.declared.answers.Outcome.TheVariants.{Refused}
 use Rattle.yebarg.specs.Answer.{refusal}
 use Rattle.yebarg.specs.Promise.{LayMeets, ReadBackMeets, CutMeets}
 use Rattle.yebarg.proofs.Settled as copying

@@ -1,3 +1,5 @@
+#![tactic(auto)]
+
 // The C library: include/przytulisz.h says what a caller of it needs.
 //
 // Thin exports over the entries. Every function takes every input and ends: none has a `requires`. A shape is one number, an answer is 0 or the number of a

@@ -1,5 +1,5 @@
 -- What `correct_columns` promises, from what its tests find. In order: false, where something isn't as it is to be; true, where all is.
-use mathlib.Core.Path.{refl, sym, ap}
+use mathlib.Core.Path.{refl, sym}
 use mathlib.Core.Bool.{Bool, true, false, true≢false}
 use mathlib.Core.List.{List}
 use Prim.Native.Nat.{ℕ}

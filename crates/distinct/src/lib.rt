@@ -1,3 +1,5 @@
+#![tactic(auto)]
+
 // Points that differ. `apart` takes every input: it has no `requires`. What it promises is a record of specs/Promise.antt. (`fresh` has a `requires`; it can't
 // be named from outside.)
 mod comparing;

@@ -1,3 +1,5 @@
+#![tactic(auto)]
+
 // The entries of a pack: document 01, "The pack file". Which is bad, and which nodes they name.
 //
 // Every function takes every input: none has a `requires`, but for a private one. What each promises is a record of specs/Promise.antt; the pack is defined in

@@ -7,7 +7,6 @@ use Prim.Native.Nat.{ℕ, zero, suc, ◌*◌, ◌/◌, ◌%◌, ◌^◌, ◌<◌
 use native.Mathlib.Nat as N
 use native.Mathlib.Omega.{arith}
 use native.Mathlib.Numerals.{add-one}
-use lib.Dec.{T}
 use lib.Pow.{mod-mod-pow, field}
 use Rattle.field.specs.Number.{modulus, add, double, by_bits, mul}
 use Rattle.field.proofs.Xor.{sums, add-below, add_shr, add-mod}

@@ -1,3 +1,5 @@
+#![tactic(auto)]
+
 // The numbers 0 to 255 of document 01, the field of ISO/IEC 18004: addition is exclusive or, and multiplication is that of
 // polynomials with bits as coefficients, modulo the polynomial whose bits make 285.
 //

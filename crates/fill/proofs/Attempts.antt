@@ -9,7 +9,7 @@ use native.Mathlib.Decide.{dec_le}
 use native.Mathlib.Omega.{arith}
 use lib.ListN.{get_or}
 use Rattle.theory.specs.Set.{count}
-use Rattle.theory.specs.Code.{nodes, rows}
+use Rattle.theory.specs.Code.{nodes}
 use Rattle.theory.specs.Whole.{Whole, Same, AgreeOff, Fills}
 use Rattle.theory.proofs.Counts.{count-beyond}
 use Rattle.theory.proofs.Filling.{fewer_equations}

@@ -1,3 +1,5 @@
+#![tactic(auto)]
+
 // Filling lost columns, and parity: document 01, "Filling lost columns".
 //
 // Every entry takes every input and ends: none has a `requires`. A bad shape, length or lost set, and survivors that belong to no whole stripe, are

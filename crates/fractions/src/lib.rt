@@ -1,3 +1,5 @@
+#![tactic(auto)]
+
 // What one helper's fraction brings to the equations of the rows read: rebuilding solves the sums that the fractions of all helpers bring.
 //
 // `add_fraction` takes every input and ends: it has no `requires`. A bad shape, length or node number is refused with its number, in document 01's order, and a

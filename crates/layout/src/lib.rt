@@ -1,3 +1,5 @@
+#![tactic(auto)]
+
 // Reading the layout of a pack: document 01, "The pack file".
 //
 // The entry takes every input and ends: it has no `requires`. A pack that isn't well formed is refused with a number, in the pack reader's own order. What

@@ -1,3 +1,5 @@
+#![tactic(auto)]
+
 // Reading a pack into a filled stripe: document 01, "The pack file" and "Refusals in order".
 //
 // The entry takes every input and ends: it has no `requires`. A pack that isn't well formed, too many nodes lost, and columns that belong to no whole stripe

@@ -18,7 +18,7 @@ use Rattle.theory.proofs.Powers.{moment-zero}
 use Rattle.theory.proofs.Ring as ring
 use Rattle.theory.proofs.Sums.{sum_ext}
 use Rattle.theory.proofs.Systems.{read-equation}
-use Rattle.field.specs.Number.{add, mul, power}
+use Rattle.field.specs.Number.{add}
 use Rattle.field.proofs.Product.{mul-below}
 use Rattle.field.proofs.Xor.{add_self, add-below}
 use Rattle.field.proofs.Numbers.{numbers, number, number-zero, number-add, number-mul, number-power, number_injective}

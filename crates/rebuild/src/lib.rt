@@ -1,3 +1,5 @@
+#![tactic(auto)]
+
 // Rebuilding one column from fractions: document 01, "Fractions and rebuilding".
 //
 // `rebuild` takes every input and ends: it has no `requires`. A bad shape, length or node number is refused with its number, in document 01's order, and a

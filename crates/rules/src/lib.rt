@@ -1,3 +1,5 @@
+#![tactic(auto)]
+
 // Document 01's rules: the shape of a stripe and the points in code, and in specs/ every rule that the other crates' contracts
 // cite. Read specs/ in the order of its Lib.antt, beside document 01.
 //

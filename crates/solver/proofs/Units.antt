@@ -8,7 +8,6 @@ use Rattle.theory.specs.Sum.{sum}
 use Rattle.theory.proofs.Sums as laws
 use Rattle.theory.proofs.Powers.{moment_ext}
 use Rattle.theory.proofs.Vandermonde.{units_solve}
-use Rattle.field.specs.Number.{mul}
 use Rattle.field.proofs.Numbers.{numbers, number, number-zero, number-one, number-mul, number_injective}
 use Rattle.rules.proofs.Ties.{sum_tie}
 use Rattle.systems.specs.System.{moment}

@@ -15,7 +15,7 @@ use Rattle.rules.specs.declared.shapes.Shape.{Shape}
 use Rattle.rules.specs.Shape.{group_size, groups, rows, worth}
 use Rattle.rules.specs.Point.{point_of}
 use Rattle.rules.specs.Stripe.{Symbols, symbol}
-use Rattle.rules.specs.Equation.{weight, sum_below, sum_to, equation, MeetsRow, Whole}
+use Rattle.rules.specs.Equation.{weight, sum_below, sum_to, equation, MeetsRow}
 use Rattle.rules.specs.declared.shapes.Sizes.{Sizes}
 use Rattle.rules.specs.Promise.{SizesAre}
 use Rattle.rules.proofs.Accepted.{Bounds, bounds}

@@ -1,3 +1,5 @@
+#![tactic(auto)]
+
 // The sums of the equations: a stripe is tested by them, and filling solves for what they are off by.
 //
 // Every function that is named here takes every input and ends: none has a `requires`. A bad shape or length is refused with its number, in document 01's

@@ -7,7 +7,6 @@ use lib.ListN.{get_or}
 use Rattle.theory.specs.Power as theory
 use Rattle.theory.specs.System.{Distinct}
 use Rattle.theory.proofs.Sums as laws
-use Rattle.field.specs.Number.{mul}
 use Rattle.field.proofs.Product.{mul-below}
 use Rattle.field.proofs.Numbers.{numbers, number, number-mul, number-power, number_injective}
 use Rattle.rules.proofs.Ties.{sum_tie, sum_below_lem}

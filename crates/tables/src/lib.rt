@@ -1,3 +1,5 @@
+#![tactic(auto)]
+
 // Products, powers and quotients of the numbers 0 to 255 by two constant tables: the powers of 2 and their logarithms.
 //
 // Every function takes every input: no public function has a `requires`. (Those of the private module `tables` may have one.)

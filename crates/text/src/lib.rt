@@ -1,3 +1,5 @@
+#![tactic(auto)]
+
 // The text that is printed of a pack: document 01, "The pack file".
 //
 // The entry takes every input and ends: it has no `requires`. What it promises is in specs/Promise.antt, the text in specs/Text.antt.

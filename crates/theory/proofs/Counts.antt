@@ -9,7 +9,6 @@ use native.Mathlib.Numerals.{add-one}
 use native.Mathlib.Omega.{arith}
 use native.Mathlib.Decide.{ℕ_discrete}
 use lib.Arith.{lt_of_le-ne}
-use lib.Dec.{eqb}
 use borrow.Author.Tests.{eq-eqb, ne_eqb, not-true}
 use Rattle.theory.specs.Set.{one_if, count, changed, without, Lists, Grown}
 

@@ -7,8 +7,6 @@ use Prim.Native.Nat.{ℕ, suc, ◌<◌, ◌≤◌}
 use native.Mathlib.Omega.{arith}
 use Rattle.theory.specs.Set.{count, Inside}
 use Rattle.theory.specs.Code.{Code, Stripe, Lawful, nodes, rows, plus, scaled}
-use Rattle.theory.specs.Power.{moment}
-use Rattle.theory.specs.Weight.{weight}
 use Rattle.theory.specs.Free.{no_group, MeetsFree}
 use Rattle.theory.specs.Level.{Level}
 use Rattle.theory.specs.Whole.{equation, MeetsRow, Whole, Same, AgreeOff, AgreeBetween, Fills}

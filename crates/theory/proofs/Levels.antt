@@ -9,8 +9,8 @@ use native.Mathlib.Nat.{eq-or-lt_of_le, le_of_suc-le-suc}
 use native.Mathlib.Omega.{arith}
 use lib.Dec.{eqb}
 use borrow.Author.Tests.{eq-eqb, ne_eqb, not-true}
-use Rattle.theory.specs.Set.{count, one_if}
-use Rattle.theory.specs.Power.{moment, moment_over}
+use Rattle.theory.specs.Set.{count}
+use Rattle.theory.specs.Power.{moment_over}
 use Rattle.theory.specs.System.{Reaches}
 use Rattle.theory.specs.Code.{Code, Stripe, Lawful, nodes, rows}
 use Rattle.theory.specs.Digit.{group}

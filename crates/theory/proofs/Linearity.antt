@@ -4,7 +4,6 @@ use mathlib.Core.Path.{◌≡◌, refl, ap, ap₂, ◌∙◌}
 use Prim.Native.Nat.{ℕ, ◌<◌, Ordering}
 use mathlib.Core.Bool.{Bool}
 use Rattle.theory.specs.Code.{Code, Stripe, nodes, plus, scaled}
-use Rattle.theory.specs.Power.{moment}
 use Rattle.theory.specs.Weight.{weighed, weight, side, mate_node, mate_row}
 use Rattle.theory.specs.Pair.{unpaired}
 use Rattle.theory.specs.Share.{spread, shared, share}

@@ -12,7 +12,6 @@ use borrow.Author.Tests.{eqb-true, eqb-false, eq-eqb, ne_eqb}
 use Rattle.theory.specs.Set.{count, changed, Lists}
 use Rattle.theory.specs.Code.{Code, Stripe, Lawful, nodes, rows, plus}
 use Rattle.theory.specs.Digit.{digit, group, place, node}
-use Rattle.theory.specs.Power.{moment}
 use Rattle.theory.specs.Weight.{weight, side, mate_node, mate_row}
 use Rattle.theory.specs.Pair.{factor}
 use Rattle.theory.specs.Free.{weight_free, MeetsFree, Closed}

@@ -8,7 +8,7 @@ use native.Mathlib.Omega.{arith}
 use Rattle.theory.specs.Sum.{sum}
 use Rattle.theory.specs.Power.{power, moment}
 use Rattle.theory.specs.Code.{Code, Stripe, Lawful, nodes, rows}
-use Rattle.theory.specs.Digit.{digit, with_digit, group, place, node}
+use Rattle.theory.specs.Digit.{digit, with_digit, group, node}
 use Rattle.theory.specs.Weight.{weight, side, mate_node, mate_row}
 use Rattle.theory.specs.Pair.{factor}
 use Rattle.theory.specs.Share.{spread, shared, share}

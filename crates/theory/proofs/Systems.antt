@@ -5,7 +5,7 @@ use mathlib.Core.Bool.{Bool, true, false, not, cond}
 use mathlib.Core.Logic.{◌↔◌}
 use Prim.Native.Nat.{ℕ, ◌<◌}
 use lib.Dec.{eqb}
-use Rattle.theory.specs.Sum.{sum, sum_over}
+use Rattle.theory.specs.Sum.{sum_over}
 use Rattle.theory.specs.Set.{Lists, changed}
 use Rattle.theory.specs.Power.{moment, moment_over}
 use Rattle.theory.specs.System.{Distinct}

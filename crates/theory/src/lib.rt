@@ -1,1 +1,3 @@
+#![tactic(auto)]
+
 // The mathematics of the code. There is no code here: specs/ has the definitions, proofs/ the laws.

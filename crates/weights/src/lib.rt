@@ -1,3 +1,5 @@
+#![tactic(auto)]
+
 // What one node adds to the sums of the equations: its weight at each row, by document 01's three cases, times its point to the power t.
 //
 // Every function that is named here takes every input and ends: none has a `requires`. It answers false, and writes nothing, where what it is given doesn't fit

@@ -1,3 +1,5 @@
+#![tactic(auto)]
+
 // The entries that only copy: a record is laid into a stripe and read back, a helper's fraction is cut.
 //
 // Every entry takes every input and ends: none has a `requires`. A bad shape, length or node number is refused with its number, in document

@@ -1,0 +1,31 @@
+-- `tables::power` meets its contract: the logarithm times the exponent is an exponent of 2, and exponents of 2 wrap at 255.
+use mathlib.Core.Path.{sym, ap, ◌∙◌}
+use Rattle.field.specs.Number.{power}
+use Rattle.field.proofs.Powers.{power_zero, zero-power}
+use Rattle.tables.proofs.Exponents.{power_by_log}
+use native.Mathlib.Omega.{arith}
+use Prim.Native.Nat.{◌%◌}
+use native.Mathlib.Nat.{mul-le-mul}
+use borrow.Author.Rules.{rules}
+use Rattle.tables.proofs.raising.power.Goals as goal
+
+pub returns-then-t-eq0 : goal.returns-then-t-eq0
+returns-then-t-eq0 c = record { value = sym (ap (power c.args.a) c.if-t-eq0.true ∙ power_zero c.args.a) }
+
+pub returns-then-a-eq0 : goal.returns-then-a-eq0
+returns-then-a-eq0 c =
+    let t = c.args.t in
+    record { value = sym (ap (λ x. power x t) c.if-a-eq0.true ∙ zero-power t (search rules)) }
+
+pub overflow_mul-wide : goal.overflow_mul-wide
+overflow_mul-wide c =
+    let l = c.wide.result in
+    let t = c.args.t % 255 in
+    record { fits = omega (arith, mul-le-mul {n₁ = l} {m₁ = t} {n₂ = 255} {m₂ = 254} (omega arith) (omega arith)) }
+
+pub returns : goal.returns
+returns c =
+    let l = c.wide.result in
+    let t = c.args.t in
+    let base = ap (power 2) c.wide.ensures.0 ∙ c.logarithm.ensures.1 in
+    record { value = c.power_of_two.ensures ∙ power_by_log l t ∙ ap (λ x. power x t) base }

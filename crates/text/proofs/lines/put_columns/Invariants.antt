@@ -1,0 +1,10 @@
+use Prim.Native.Nat.{◌-◌}
+use Rattle.text.specs.Text.{column_line}
+use Rattle.text.proofs.Turns.{NodesPut}
+use Rattle.text.proofs.lines.put_columns.Given as goal
+
+abbrev pub invariant-loop-i : goal.invariant-loop-i
+invariant-loop-i l = NodesPut (column_line l.shape l.stripe) l.z.n l.set l.at l.initial.text l.i l.text l.stop
+
+abbrev pub decreases-loop-i : goal.decreases-loop-i
+decreases-loop-i l = l.z.n - l.i

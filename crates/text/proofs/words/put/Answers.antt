@@ -1,0 +1,27 @@
+-- `text::put` meets its contract: the part of the text that is lent comes back as the words.
+use mathlib.Core.Path.{◌≡◌, refl, sym, ap, ◌∙◌}
+use mathlib.Core.List.{List, ◌++◌, append_assoc}
+use Prim.Native.Nat.{ℕ, ◌+◌, ◌-◌}
+use lib.ListN.{length, take, drop}
+use borrow.Rule.Slice.PartMut.{put_mid}
+use Rattle.columns.proofs.Parts.{part_length, put-parts}
+use Rattle.yebarg.proofs.Lists.{laid-over-all}
+use Rattle.text.specs.Kernel.{Fits, Put}
+use Rattle.text.proofs.words.put.Goals as goal
+
+put-part : (at : ℕ) (words text part : List ℕ) → Fits at words text
+    → part ≡ take (length words) words ++ drop (length words) (take (at + length words - at) (drop at text))
+    → Put at words text (put_mid at (at + length words - at) text part) (at + length words)
+put-part at words text part fits copied = record {
+  stops = refl;
+  is =
+      put-parts at (length words) text fits part
+      ∙ ap (λ (l : List ℕ). take at text ++ (l ++ drop (at + length words) text))
+      (copied ∙ laid-over-all words _ (part_length at (length words) text fits))
+      ∙ sym (append_assoc (take at text) words (drop (at + length words) text));
+}
+
+
+pub returns : goal.returns
+returns c =
+    put-part c.args.at c.args.words.now c.args.text.now _ c.requires c.copy.ensures.bytes
