@@ -1,10 +1,10 @@
-#![tactic(auto)]
-
 // The C library: include/przytulisz.h says what a caller of it needs.
 //
 // Thin exports over the entries. Every function takes every input and ends: none has a `requires`. A shape is one number, an answer is 0 or the number of a
 // refusal; each contract is the promise of the entry itself, read through specs/Word.antt, or a record of specs/Promise.antt: of a shape's number, and where
 // numbers are written through pointers.
+#![tactic(auto)]
+
 mod packs;
 mod records;
 mod repairs;

@@ -1,15 +1,18 @@
 -- A part of a buffer, lent on and given back: `s[a..e]` with e = a + l, byte by byte. In order: the part; the buffer with other bytes ys in its place: the
--- part, before it, inside and after it; the same where the part is a column of length l; an array of zeros, and its front; a front with the rest after it.
+-- part, before it, inside and after it; the same where the part is a column of length l; an array of zeros, and its front; a front with the rest after it;
+-- bytes copied over the front of a list.
 use mathlib.Core.Path.{◌≡◌, refl, sym, ap, ◌∙◌}
 use mathlib.Core.List.{List, ◌++◌}
 use Prim.Native.Nat.{ℕ, zero, suc, ◌+◌, ◌-◌, ◌*◌, ◌<◌, ◌≤◌, compare, Ordering}
 use native.Mathlib.Nat.{add-sub_cancel_left}
 use native.Mathlib.Omega.{arith}
+use Rattle.std.proofs.lemmas.List.{take_all}
 use lib.ListN.{length, get_or, take, drop, replicate, length-append, length-drop, length-replicate, get_or-replicate, get_or-append}
-use lib.Seq.{length-take-le, take_at, drop_at, get_or-take, get_or-drop, get_or-append-add, drop-drop}
+use lib.Seq.{length-take-le, take_at, drop_at, get_or-take, get_or-drop, get_or-append-add, drop-drop, take-length}
 use borrow.Rule.Slice.PartMut.{put_mid}
 use Rattle.theory.specs.Pair.{Compared}
 use Rattle.theory.proofs.Mates.{compare_says}
+use Rattle.columns.specs.Promise.{CopiedOver}
 use Rattle.columns.proofs.Kernels.{column-within, entry-within}
 
 module _ (a l : ℕ) (xs : List ℕ) (fits : a + l ≤ length xs) where
@@ -101,3 +104,9 @@ module _ (xs rest : List ℕ) (n : ℕ) (exact : length xs ≡ n) where
 
   pub front_length : length (take n (xs ++ rest)) ≡ n
   front_length = ap length (take_at xs rest n exact) ∙ exact
+
+-- all that is copied stands at the front, with the rest of a longer list after it
+pub copied-over : {from before later : List ℕ} → length from ≤ length before → CopiedOver from before later
+    → later ≡ take (length from) from ++ drop (length from) before
+copied-over {from} {before} fits copied =
+    copied.bytes ∙ ap (λ xs. xs ++ drop (length from) before) (take_all (length before) from fits ∙ sym (take-length from))

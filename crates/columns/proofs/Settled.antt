@@ -1,12 +1,13 @@
 -- What each function promises settles its result: two results that one promise allows are equal. And for each, two wrong answers that the promise rules out.
--- In order: `byte_at`, `lesser`, `add_multiple`, `clear`.
-use mathlib.Core.Path.{◌≡◌, sym, ◌∙◌}
+-- In order: `byte_at`, `lesser`, `add_multiple`, `clear`, `copy`.
+use mathlib.Core.Path.{◌≡◌, sym, ap, ◌∙◌}
 use mathlib.Core.List.{List, [], ◌∷◌}
 use Prim.Native.Nat.{ℕ}
 use native.Mathlib.Omega.{arith}
+use lib.ListN.{get_or}
 use lib.Seq.{ext_get_or}
 use Rattle.field.specs.Number.{modulus, add, double, by_bits, mul}
-use Rattle.columns.specs.Promise.{ByteIs, LesserIs, Multiplied, Cleared}
+use Rattle.columns.specs.Promise.{ByteIs, LesserIs, Multiplied, Cleared, CopiedOver}
 
 pub byte-at_settled : (list : List ℕ) (j x y : ℕ) → ByteIs list j x → ByteIs list j y → x ≡ y
 byte-at_settled list j x y p q = p.value ∙ sym q.value
@@ -54,3 +55,13 @@ clear_keeps p = let e : ◌≡◌ {A = ℕ} 7 0 = p.bytes 0 (omega arith) in ome
 
 pub clear_shortens : Cleared (7 ∷ []) [] → ⊥
 clear_shortens p = let e : ◌≡◌ {A = ℕ} 0 1 = p.same_length in omega arith
+
+pub copy_settled : (from before xs ys : List ℕ) → CopiedOver from before xs → CopiedOver from before ys → xs ≡ ys
+copy_settled from before xs ys p q = p.bytes ∙ sym q.bytes
+
+pub copy_keeps : CopiedOver (5 ∷ []) (7 ∷ 8 ∷ []) (7 ∷ 8 ∷ []) → ⊥
+copy_keeps p = let e : ◌≡◌ {A = ℕ} 7 5 = ap (λ list. get_or list 0 0) p.bytes in omega arith
+
+-- where `from` is short, the rest is kept
+pub copy_clears : CopiedOver (5 ∷ []) (7 ∷ 8 ∷ []) (5 ∷ 0 ∷ []) → ⊥
+copy_clears p = let e : ◌≡◌ {A = ℕ} 0 8 = ap (λ list. get_or list 1 0) p.bytes in omega arith

@@ -3,7 +3,8 @@
 --   LesserIs a b x  == `lesser`: x is the lesser of a and b
 --   Multiplied c from before later == `add_multiple`: each byte of `before` plus c times the byte of `from`
 --   Cleared before later == `clear`: as many zero bytes
-use Rattle.std.specs.Prelude.{◌≡◌, List, ℕ, ◌<◌, min, length, get_or}
+--   CopiedOver from before later == `copy`: the bytes of `from` over the front of those of `before`, as far as both go
+use Rattle.std.specs.Prelude.{◌≡◌, List, ℕ, ◌<◌, ◌++◌, min, length, get_or, take, drop}
 use Rattle.field.specs.Number.{add, mul}
 
 pub record ByteIs (list : List ℕ) (j x : ℕ) : Type 0 where
@@ -19,3 +20,6 @@ pub record Multiplied (c : ℕ) (from before later : List ℕ) : Type 0 where
 pub record Cleared (before later : List ℕ) : Type 0 where
   pub same_length : length later ≡ length before
   pub bytes : (a : ℕ) → a < length before → get_or later a 0 ≡ 0
+
+pub record CopiedOver (from before later : List ℕ) : Type 0 where
+  pub bytes : later ≡ take (length before) from ++ drop (length from) before

@@ -1,7 +1,7 @@
-#![tactic(auto)]
-
 // Points that differ. `apart` takes every input: it has no `requires`. What it promises is a record of specs/Promise.antt. (`fresh` has a `requires`; it can't
 // be named from outside.)
+#![tactic(auto)]
+
 mod comparing;
 
 // Are there at most four points, all different?

@@ -1,9 +1,9 @@
-#![tactic(auto)]
-
 // The entries of a pack: document 01, "The pack file". Which is bad, and which nodes they name.
 //
 // Every function takes every input: none has a `requires`, but for a private one. What each promises is a record of specs/Promise.antt; the pack is defined in
 // specs/Pack.antt, and what makes its layout refused in specs/Refusal.antt.
+#![tactic(auto)]
+
 mod entries;
 
 // How many bytes the header has, and an entry.

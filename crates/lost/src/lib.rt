@@ -1,8 +1,8 @@
-#![tactic(auto)]
-
 // The lost nodes as flags, and columns copied by them.
 //
 // Every function takes every input and ends: none has a `requires`. What each promises is a record of specs/Promise.antt.
+#![tactic(auto)]
+
 mod copying;
 mod flagging;
 

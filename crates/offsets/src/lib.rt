@@ -1,9 +1,9 @@
-#![tactic(auto)]
-
 // The numbers of a pack: document 01, "The pack file". Its total, its offsets, and the input's length: refusal 8, in this order.
 //
 // Every function takes every input: none has a `requires`, but for private ones. What each promises is a record of specs/Promise.antt; the pack is defined in
 // crate `entries`.
+#![tactic(auto)]
+
 mod numbers;
 mod totals;
 

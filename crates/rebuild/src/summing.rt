@@ -11,7 +11,7 @@ use rules::Shape;
 // How many fractions stand before that of node i.
 fn helper_before(failed: usize, i: usize) -> usize
     requires le_failed { (1 ≤ failed) × (1 ≤ i) }
-    requires fact { i ≡ failed → ⊥ }
+    requires not_failed { i ≡ failed → ⊥ }
     ensures { result ≡ helper_before failed i }
 {
     if i < failed {

@@ -1,13 +1,13 @@
-#![tactic(auto)]
-
 // Products, powers and quotients of the numbers 0 to 255 by two constant tables: the powers of 2 and their logarithms.
 //
 // Every function takes every input: no public function has a `requires`. (Those of the private module `tables` may have one.)
 // What each promises is a record of specs/Promise.antt, and of crate `field` for the product. Division by 0 is refused with
 // number 9, and no function answers a number for it.
 //
-// A constant table that is indexed is copied to the stack at every use, so that none of these is for a loop over bytes:
-// `times` of crate `field` reads no table.
+// None of these is called in a loop over bytes: `times` of crate `field` reads no table. (The compiler that this was written for
+// copied a constant table to the stack at every use; today's reads it in place.)
+#![tactic(auto)]
+
 mod answers;
 mod dividing;
 mod multiplying;

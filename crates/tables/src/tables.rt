@@ -1,5 +1,4 @@
-// The two constant tables, and the functions that read them. Every read of a table copies it to the stack, so
-// that none of this is for a loop.
+// The two constant tables, and the functions that read them.
 ghost use Rattle.std.specs.Prelude.{◌≡◌, ◌<◌};
 ghost use Rattle.field.specs.Number.{power};
 

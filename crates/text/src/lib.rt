@@ -1,9 +1,9 @@
-#![tactic(auto)]
-
 // The text that is printed of a pack: document 01, "The pack file".
 //
 // The entry takes every input and ends: it has no `requires`. What it promises is in specs/Promise.antt, the text in specs/Text.antt.
 // (Functions with a `requires` stand in the private modules `lines`, `printing` and `words`: none can be named from outside.)
+#![tactic(auto)]
+
 mod answers;
 mod lines;
 mod printing;

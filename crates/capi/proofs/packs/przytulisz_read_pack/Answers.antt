@@ -12,7 +12,7 @@ use Rattle.capi.proofs.Pointers.{read_told, not_read-told}
 use Rattle.capi.proofs.packs.przytulisz_read_pack.Goals as goal
 use Rattle.capi.proofs.packs.przytulisz_read_pack.Goals.{After-read_pack, In-Accepted}
 
-met : (c : After-read_pack) →  {answer : Unpacked} → c.read_pack.result ≡ answer
+met : (c : After-read_pack) → {answer : Unpacked} → c.read_pack.result ≡ answer
     → ReadMeets c.args.pack.now c.args.stripe.now answer c.read_pack.new.stripe
 met c e = subst (λ a. ReadMeets c.args.pack.now c.args.stripe.now a c.read_pack.new.stripe) e c.read_pack.ensures
 

@@ -6,7 +6,7 @@ use Rattle.capi.proofs.Pointers.{refused-told, whole-told, fails-told}
 use Rattle.capi.proofs.stripes.przytulisz_test.Goals as goal
 use Rattle.capi.proofs.stripes.przytulisz_test.Goals.{After-test}
 
-tested : (c : After-test) →  {answer : Tested} → c.test.result ≡ answer
+tested : (c : After-test) → {answer : Tested} → c.test.result ≡ answer
     → TestMeets (shape_of c.args.shape) c.args.stripe.now answer
 tested c {answer} e =
     subst (λ sh. TestMeets sh c.args.stripe.now answer) c.shape_of.ensures

@@ -28,14 +28,11 @@ module _ {n : ℕ} {flags : List Bool} {x i : ℕ} (was : Counted n flags x i) (
     counted = omega (arith, was.counted, simp taken at (count-suc i (chosen flags)));
   })
 
-
 small : {n : ℕ} {flags : List Bool} {x i : ℕ} → Counted n flags x i → x ≤ n
 small {flags = flags} {i = i} was = omega (arith, was.counted, count_le i (chosen flags), was.most)
 
-
 all-counted : {n : ℕ} {flags : List Bool} {x i : ℕ} → Counted n flags x i → n ≤ i → x ≡ count n (chosen flags)
 all-counted {flags = flags} was h = was.counted ∙ ap (λ k. count k (chosen flags)) (le_antisymm was.most h)
-
 
 -- the loop ends at node 16
 end-most : (c : After-lesser-end) → c.lesser-end.result ≤ 16
@@ -58,9 +55,9 @@ loop-i-preserved c =
     let inv = c.loop-i.invariant in
     let within = c.loop-i-test.true in
     elim c.if-flags-i.branch [
-          then-flags-i w ↦ put_in inv within w.if-flags-i.true w.count-is
-          | else-flags-i w ↦ left_out_lem inv within w.if-flags-i.false w.count-is
-          ]
+      | then-flags-i w ↦ put_in inv within w.if-flags-i.true w.count-is
+      | else-flags-i w ↦ left_out_lem inv within w.if-flags-i.false w.count-is
+    ]
 
 pub returns : goal.returns
 returns c =

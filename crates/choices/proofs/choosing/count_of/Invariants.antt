@@ -10,7 +10,6 @@ pub record Counted (n : ℕ) (flags : List Bool) (x i : ℕ) : Type 0 where
   pub most : i ≤ n
   pub counted : x ≡ count i (chosen flags)
 
-
 abbrev pub invariant-loop-i : goal.invariant-loop-i
 invariant-loop-i l = Counted l.end l.flags l.count l.i
 

@@ -38,11 +38,9 @@ module _ {n : ℕ} {flags : List Bool} {nodes : List ℕ} {j i : ℕ} (growing :
     listed = rw growing.counted (listed_more growing.listed taken (omega (arith, growing.counted, room few taken)));
   })
 
-
 all_listed : {n : ℕ} {flags : List Bool} {nodes : List ℕ} {j i : ℕ} → Growing n flags nodes j i → n ≤ i → ListedAre n flags nodes
 all_listed {flags = flags} {nodes = nodes} growing h =
     subst (λ k. ListedAre k flags nodes) (le_antisymm growing.most h) growing.listed
-
 
 pub returns-then-count_of-gt4 : goal.returns-then-count_of-gt4
 returns-then-count_of-gt4 c = record {
@@ -92,9 +90,9 @@ loop-i-preserved c =
     let inv = c.loop-i.invariant in
     let within = c.loop-i-test.true in
     elim c.if-flags-i.branch [
-          then-flags-i w ↦ put_in inv within w.if-flags-i.true (few-chosen (goal.at.loop-i-preserved c).After-lesser-end) w.nodes-is w.j-is
-          | else-flags-i w ↦ left_out_lem inv within w.if-flags-i.false w.nodes-is w.j-is
-          ]
+      | then-flags-i w ↦ put_in inv within w.if-flags-i.true (few-chosen (goal.at.loop-i-preserved c).After-lesser-end) w.nodes-is w.j-is
+      | else-flags-i w ↦ left_out_lem inv within w.if-flags-i.false w.nodes-is w.j-is
+    ]
 
 pub returns : goal.returns
 returns c =

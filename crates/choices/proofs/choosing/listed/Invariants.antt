@@ -12,7 +12,6 @@ pub record Growing (n : ℕ) (flags : List Bool) (nodes : List ℕ) (j i : ℕ) 
   pub counted : j ≡ count i (chosen flags)
   pub listed : ListedAre i flags nodes
 
-
 abbrev pub invariant-loop-i : goal.invariant-loop-i
 invariant-loop-i l = Growing l.end l.flags l.nodes l.j l.i
 

@@ -22,7 +22,6 @@ module _ (sh : Shape) (nodes : List ℕ) {p0 p1 p2 p3 : ℕ}
   points_are : PointsAre sh nodes (p0 ∷ p1 ∷ p2 ∷ p3 ∷ [])
   points_are = record { all = refl; inside = λ j h. (each j h).inside; outside = λ j h. (each j h).outside }
 
-
 pub returns : goal.returns
 returns c =
     points_are c.args.shape c.args.nodes c.point_at-p0.ensures c.point_at-p1.ensures

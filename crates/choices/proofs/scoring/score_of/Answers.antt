@@ -24,10 +24,8 @@ use Rattle.choices.proofs.scoring.score_of.Invariants.{Scoring}
 remainder : (x s : ℕ) {q : ℕ} → q ≡ x / s → x - q * s ≡ x % s
 remainder x s is = ap (λ q. x - q * s) is ∙ omega (arith, div-add-mod' x s)
 
-
 quotient-within : (x s : ℕ) {q : ℕ} → q ≡ x / s → q * s ≤ x
 quotient-within x s is = omega (arith, ap (λ q. q * s) is, div-mul-le_self x s)
-
 
 module _ {s m : ℕ} {flags : List Bool} {a sum rest v : ℕ} (scoring : Scoring s m flags a sum rest v) (some : 0 < s) (within : v < m)
     {left : ℕ} (is : left ≡ rest / s) where
@@ -47,7 +45,6 @@ module _ {s m : ℕ} {flags : List Bool} {a sum rest v : ℕ} (scoring : Scoring
     digits = is ∙ ap (λ q. q / s) scoring.digits ∙ div-div-eq-div-mul a (s ^ v) s ∙ ap (λ w. a / w) (sym (pow-suc s v));
   })
 
-
 module _ {s m : ℕ} {flags : List Bool} {a sum rest v : ℕ} (scoring : Scoring s m flags a sum rest v) where
   score-small : 0 < s → sum ≤ m * s
   score-small some =
@@ -59,7 +56,6 @@ module _ {s m : ℕ} {flags : List Bool} {a sum rest v : ℕ} (scoring : Scoring
   all-scored : m ≤ v → sum ≡ score s m no_group (chosen flags) a
   unfolding score
   all-scored h = scoring.counted ∙ ap (λ w. count w (scored s no_group (chosen flags) a)) (le_antisymm scoring.most h)
-
 
 pub loop-v-init : goal.loop-v-init
 loop-v-init c =
@@ -111,9 +107,9 @@ loop-v-preserved c =
     let counts = c.requires.0 in
     let within = c.loop-v-test.true in
     elim c.if-flags-v.branch [
-          then-flags-v w ↦ score-step inv counts within c.over-left.ensures true w.if-flags-v.true w.sum-is
-          | else-flags-v w ↦ score-step inv counts within c.over-left.ensures false w.if-flags-v.false (w.sum-is ∙ sym (add-zero _))
-          ]
+      | then-flags-v w ↦ score-step inv counts within c.over-left.ensures true w.if-flags-v.true w.sum-is
+      | else-flags-v w ↦ score-step inv counts within c.over-left.ensures false w.if-flags-v.false (w.sum-is ∙ sym (add-zero _))
+    ]
 
 pub returns : goal.returns
 returns c = all-scored c.loop-v.invariant c.loop-v-test.false

@@ -13,7 +13,6 @@ pub record Scoring (s m : ℕ) (flags : List Bool) (a sum rest v : ℕ) : Type 0
   pub counted : sum ≡ count v (scored s no_group (chosen flags) a)
   pub digits : rest ≡ a / s ^ v
 
-
 abbrev pub invariant-loop-v : goal.invariant-loop-v
 invariant-loop-v l = Scoring l.s l.m l.flags l.a l.sum l.rest l.v
 

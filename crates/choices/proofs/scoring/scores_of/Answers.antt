@@ -28,12 +28,10 @@ scores-written most end written =
       rest = λ b h. written.kept b (omega arith) ∙ zeros-at 256 b;
     }
 
-
 -- the same in the shape's sizes
 as_shape : (sh : Shape) (z : Sizes) (flags : List Bool) (scores : List ℕ) → SizesAre sh z → ScoresAre z.s z.m z.l flags scores
     → ScoresAre (group_size sh) (groups sh) (rows sh) flags scores
 as_shape sh z flags scores h right = subst (λ (y : Sizes). ScoresAre y.s y.m y.l flags scores) (sizes_are sh z h) right
-
 
 abbrev size : In-Accepted → Sizes
 size c = c.in-Accepted.z

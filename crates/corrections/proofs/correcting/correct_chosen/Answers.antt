@@ -94,15 +94,15 @@ loop-i-preserved c =
     let new = corrected_in c.args.shape c.args.flags c.args.scores.now c.args.level c.args.short.now c.args.stripe.now in (
       omega (arith, c.loop-i-test.true),
       elim c.if-flags-i.branch [
-          then-flags-i w ↦ subst (ColumnsTo new c.args.z.l (now.i + 1) c.args.stripe.now) (sym w.stripe-is)
-          (column-step c.args.shape c.args.z c.requires.sizes_are c.args.flags c.args.scores.now c.args.level c.args.short.now c.args.stripe.now now.i _ now.stripe _
-          c.loop-i-test.true w.if-flags-i.true (c.requires.l_in_bounds.1 ∙ all-nodes c.args.shape c.args.z c.requires.sizes_are)
-          (counts c.args.shape c.args.z c.requires.sizes_are now.i (node-below (goal.at.loop-i-preserved c).In-loop-i) w.worth-w.ensures).2
-          (column-within (goal.at.loop-i-preserved c).In-loop-i) now.invariant.1 w.correct_column.ensures)
-          | else-flags-i w ↦ subst (ColumnsTo new c.args.z.l (now.i + 1) c.args.stripe.now) (sym w.stripe-is)
-          (column-stays c.args.shape c.args.z.l c.requires.sizes_are.l-is c.args.flags c.args.scores.now c.args.level c.args.short.now c.args.stripe.now now.stripe now.i
-          w.if-flags-i.false now.invariant.1)
-          ],
+        | then-flags-i w ↦ subst (ColumnsTo new c.args.z.l (now.i + 1) c.args.stripe.now) (sym w.stripe-is)
+            (column-step c.args.shape c.args.z c.requires.sizes_are c.args.flags c.args.scores.now c.args.level c.args.short.now c.args.stripe.now now.i _ now.stripe _
+            c.loop-i-test.true w.if-flags-i.true (c.requires.l_in_bounds.1 ∙ all-nodes c.args.shape c.args.z c.requires.sizes_are)
+            (counts c.args.shape c.args.z c.requires.sizes_are now.i (node-below (goal.at.loop-i-preserved c).In-loop-i) w.worth-w.ensures).2
+            (column-within (goal.at.loop-i-preserved c).In-loop-i) now.invariant.1 w.correct_column.ensures)
+        | else-flags-i w ↦ subst (ColumnsTo new c.args.z.l (now.i + 1) c.args.stripe.now) (sym w.stripe-is)
+            (column-stays c.args.shape c.args.z.l c.requires.sizes_are.l-is c.args.flags c.args.scores.now c.args.level c.args.short.now c.args.stripe.now now.stripe now.i
+            w.if-flags-i.false now.invariant.1)
+      ],
     )
 
 pub shape_of-stripe : goal.shape_of-stripe

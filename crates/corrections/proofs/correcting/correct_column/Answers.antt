@@ -107,7 +107,6 @@ next-correction s w l group first flags u a {d} digit e f g =
     correction_by (compare u k) (chosen flags (first + k)) (get_or group (u * l + a) 0) (get_or group (k * l + (a - k * w + u * w)) 0))
     digit
 
-
 -- at the score asked for it is added to the old byte, elsewhere the old byte stays
 added : (scores : List ℕ) (level : ℕ) (before : List ℕ) (a : ℕ) {old x z : ℕ} → get_or scores a 0 ≡ level → old ≡ get_or before a 0 → x ≡ z
     → bit_xor old x ≡ byte_at scores level before a z
@@ -115,10 +114,8 @@ unfolding add
 added scores level before a {z = z} at e f =
     ap₂ bit_xor e f ∙ ap (λ b. cond b (bit_xor (get_or before a 0) z) (get_or before a 0)) (sym (eq-eqb (get_or scores a 0) level at))
 
-
 stays : (scores : List ℕ) (level : ℕ) (before : List ℕ) (a z : ℕ) → (get_or scores a 0 ≡ level → ⊥) → get_or before a 0 ≡ byte_at scores level before a z
 stays scores level before a z off = ap (λ b. cond b (add (get_or before a 0) z) (get_or before a 0)) (sym (ne_eqb (get_or scores a 0) level off))
-
 
 pub loop-a-preserved : goal.loop-a-preserved
 loop-a-preserved c =
@@ -126,19 +123,19 @@ loop-a-preserved c =
     let new = corrected_at c.args.s c.args.w c.args.group.now c.args.first c.args.flags c.args.u c.args.scores.now c.args.level c.args.column.now in
     let some : 0 < c.args.s = omega (arith, c.requires.u_lt_s.0) in (
       elim c.if-scores-a.branch [
-          then-scores-a w ↦ subst (Written new (x.a + 1) c.args.column.now) (sym w.column-is)
-          (written_step x.invariant.0 _ c.loop-a-test.true
-          (added c.args.scores.now c.args.level c.args.column.now x.a w.if-scores-a.true (written-here x.invariant.0)
-          (next-correction c.args.s c.args.w (length c.args.column.now) c.args.group.now c.args.first c.args.flags c.args.u x.a x.invariant.1.digit
-          w.byte_at-own.ensures.value w.byte_at-other.ensures.value w.correction.ensures)))
-          | else-scores-a w ↦ subst (Written new (x.a + 1) c.args.column.now) (sym w.column-is)
-          (written_skip x.invariant.0 (stays c.args.scores.now c.args.level c.args.column.now x.a _ w.if-scores-a.false))
-          ],
+        | then-scores-a w ↦ subst (Written new (x.a + 1) c.args.column.now) (sym w.column-is)
+            (written_step x.invariant.0 _ c.loop-a-test.true
+            (added c.args.scores.now c.args.level c.args.column.now x.a w.if-scores-a.true (written-here x.invariant.0)
+            (next-correction c.args.s c.args.w (length c.args.column.now) c.args.group.now c.args.first c.args.flags c.args.u x.a x.invariant.1.digit
+            w.byte_at-own.ensures.value w.byte_at-other.ensures.value w.correction.ensures)))
+        | else-scores-a w ↦ subst (Written new (x.a + 1) c.args.column.now) (sym w.column-is)
+            (written_skip x.invariant.0 (stays c.args.scores.now c.args.level c.args.column.now x.a _ w.if-scores-a.false))
+      ],
       elim c.if-j-w.branch [
-          then-j-w+then-d-s w ↦ carried_as w.d-is w.j-is (carried-around x.invariant.1 w.if-j-w.true w.if-d-s.true)
-          | then-j-w+else-d-s w ↦ carried_as w.d-is w.j-is (carried-over x.invariant.1 some w.if-j-w.true w.if-d-s.false)
-          | else-j-w w ↦ carried_as w.d-is w.j-is (carried-within x.invariant.1 c.requires.w_nonzero.0 w.if-j-w.false)
-          ],
+        | then-j-w+then-d-s w ↦ carried_as w.d-is w.j-is (carried-around x.invariant.1 w.if-j-w.true w.if-d-s.true)
+        | then-j-w+else-d-s w ↦ carried_as w.d-is w.j-is (carried-over x.invariant.1 some w.if-j-w.true w.if-d-s.false)
+        | else-j-w w ↦ carried_as w.d-is w.j-is (carried-within x.invariant.1 c.requires.w_nonzero.0 w.if-j-w.false)
+      ],
     )
 
 pub shape_of-column : goal.shape_of-column

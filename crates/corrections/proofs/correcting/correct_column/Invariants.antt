@@ -13,10 +13,8 @@ use Rattle.corrections.proofs.correcting.correct_column.Given as goal
 abbrev pub byte_at : List ℕ → ℕ → List ℕ → ℕ → ℕ → ℕ
 byte_at scores level before a z = cond (eqb (get_or scores a 0) level) (add (get_or before a 0) z) (get_or before a 0)
 
-
 abbrev pub corrected_at : ℕ → ℕ → List ℕ → ℕ → List Bool → ℕ → List ℕ → ℕ → List ℕ → ℕ → ℕ
 corrected_at s w group first flags u scores level before a = byte_at scores level before a (correction_at s w (length before) group first flags u a)
-
 
 abbrev pub invariant-loop-a : goal.invariant-loop-a
 invariant-loop-a l = Written (corrected_at l.s l.w l.group l.first l.flags l.u l.scores l.level l.initial.column) l.a l.initial.column l.column × Carried l.s l.w l.a l.d l.j

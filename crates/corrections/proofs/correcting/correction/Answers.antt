@@ -17,7 +17,6 @@ picked : (o : Ordering) (lost : Bool) (u d : ℕ) (paired : Bool) (own other : �
     → correction_by o lost own other ≡ correction_by (compare u d) paired own other
 picked o lost u d paired own other h e = ap₂ (λ p b. correction_by p b own other) (sym (compare_only u d o h)) (sym e)
 
-
 pub returns-then-u-d : goal.returns-then-u-d
 unfolding correction_by
 returns-then-u-d c =

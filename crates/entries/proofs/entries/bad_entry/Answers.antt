@@ -34,9 +34,9 @@ high c = c.if-pack-node.false
 above : (c : Joined-e-gt0) → node_before c.args.pack.now c.args.e < node_in c.args.pack.now c.args.e
 above c =
     elim c.if-e-gt0.branch [
-          then-e-gt0+else-node-pack w ↦ omega (arith, node-before c.args.pack.now c.args.e w.if-e-gt0.true, node_in_lem c.args.pack.now c.args.e, w.if-node-pack.false)
-          | else-e-gt0 w ↦ omega (arith, node-before-first c.args.pack.now c.args.e w.if-e-gt0.false, low (goal.at.Joined-e-gt0 c).Else-pack-node)
-          ]
+      | then-e-gt0+else-node-pack w ↦ omega (arith, node-before c.args.pack.now c.args.e w.if-e-gt0.true, node_in_lem c.args.pack.now c.args.e, w.if-node-pack.false)
+      | else-e-gt0 w ↦ omega (arith, node-before-first c.args.pack.now c.args.e w.if-e-gt0.false, low (goal.at.Joined-e-gt0 c).Else-pack-node)
+    ]
 
 padding-decides : (c : Joined-e-gt0) → bad_entry c.args.pack.now c.args.e ≡ not (padded_in c.args.pack.now c.args.e)
 padding-decides c = bad_padding _ _ (low (goal.at.Joined-e-gt0 c).Else-pack-node) (high (goal.at.Joined-e-gt0 c).Else-pack-node) (above c)

@@ -50,7 +50,6 @@ bad_entry-requires c =
 first-is : (pack : List ℕ) (e : ℕ) → is_shorter pack ≡ false → e ≡ first_bad_entry pack → FirstBadIs pack e
 first-is pack e uncut is = record { there = λ q. is; short = λ q. absurd (true≢false (sym q ∙ uncut)) }
 
-
 pub overflow_add-result : goal.overflow_add-result
 overflow_add-result c = omega (arith, count_fits (goal.at.overflow_add-result c).After-shared_slice_known-1)
 

@@ -55,7 +55,7 @@ at_most : (c : In-Accepted) → ones (lost-of c) ≤ (size c).r → lost_count (
 unfolding lost_count
 at_most c h = few-lost c h
 
-lost-exact : (c : In-Accepted) →  {flags : List Bool} → FlagsAre (is_lost (lost-of c)) flags → lost-of c / 2 ^ (size c).n ≡ 0
+lost-exact : (c : In-Accepted) → {flags : List Bool} → FlagsAre (is_lost (lost-of c)) flags → lost-of c / 2 ^ (size c).n ≡ 0
     → ones (lost-of c) ≡ count c.args.shape.n (chosen flags)
 unfolding lost_count
 lost-exact c flags e = sym (lost-count (lost-of c) c.args.shape.n flags (bits-end c e) (omega (arith, (sizes c).n-is, (few c).n-most)))

@@ -125,7 +125,6 @@ slice_bounds-copy_columns-end-then-accepted c = sym (front_length c.fill_levels.
 as_shape : (P : ℕ → ℕ → Type 0) {sh : Shape} {z : Sizes} → SizesAre sh z → P z.n z.l → P sh.n (rows sh)
 as_shape P {sh} {z} h p = subst (λ n. P n (rows sh)) h.n-is (subst (λ l. P z.n l) h.l-is p)
 
-
 fits : (c : Start) → Bounds c.args.shape
 fits c = bounds c.args.shape (sizes c).taken
 
@@ -139,7 +138,7 @@ stood : (c : After-stands-accepted) → Standing c.args.shape c.args.count c.fil
 stood c =
     subst (λ list. Standing c.args.shape c.args.count list c.stands-accepted.result) (take_at c.fill_levels.new.stripe _ (c.args.z.n * c.args.z.l) (corrected-length (goal.at.After-stands-accepted c).After-fill_levels)) c.stands-accepted.ensures
 
-a_byte : (c : After-fill_levels) →  (k : ℕ) → get_or c.args.stripe.now k 0 < 256
+a_byte : (c : After-fill_levels) → (k : ℕ) → get_or c.args.stripe.now k 0 < 256
 a_byte c k = ((goal.at.After-fill_levels c).After-others_of-kept.type_inv.stripe k).fits
 
 written : (c : After-copy_columns-then-accepted) → Copied c.args.flags c.args.z.n c.args.z.l c.fill_levels.new.stripe c.args.stripe.now c.copy_columns-then-accepted.new.to

@@ -44,14 +44,12 @@ after-k : (sh : Shape) (k n : ℕ) → k ≡ data_nodes sh → n ≡ sh.n → (i
 unfolding is_parity
 after-k sh k n is-k is-n i h = simp (is-k, le-leb i n (omega arith), and-true)
 
-
 parity-exact : (sh : Shape) (z : Sizes) {flags : List Bool} → SizesAre sh z → FlagsAre (λ i. ltb z.k i && leb i z.n) flags
     → z.r ≡ count sh.n (chosen flags)
 unfolding data_nodes
 parity-exact sh z {flags} h are =
     subst (λ n. z.r ≡ count n (chosen flags)) h.n-is
     (sym (parity-count z.k z.n are z.r (omega (arith, h.k-is, h.n-is, h.r-is, (bounds sh h.taken).n-least)) (small sh z h).n-most))
-
 
 pub returns-in_default : goal.returns-in_default
 returns-in_default c = parity-refused _ _ (parity-shape _ _ (measured-refused _ c.measure.ensures c.in_default.is))
@@ -69,10 +67,10 @@ fill_one-requires c =
       sizes_are = sizes (goal.at.fill_one-requires c).In-Accepted;
       stripe_len = c.if-stripe-z.false ∙ stripe-end (goal.at.fill_one-requires c).In-Accepted;
       count_value = (
-          parity-exact c.args.shape c.in-Accepted.z (sizes (goal.at.fill_one-requires c).In-Accepted) c.parity_flags.ensures,
-          omega (arith, (sizes (goal.at.fill_one-requires c).In-Accepted).r-is),
-          subst (λ n. NoneFrom n c.parity_flags.result) (sizes (goal.at.fill_one-requires c).In-Accepted).n-is (parity-none c.in-Accepted.z.k c.in-Accepted.z.n c.parity_flags.ensures),
-        );
+        parity-exact c.args.shape c.in-Accepted.z (sizes (goal.at.fill_one-requires c).In-Accepted) c.parity_flags.ensures,
+        omega (arith, (sizes (goal.at.fill_one-requires c).In-Accepted).r-is),
+        subst (λ n. NoneFrom n c.parity_flags.result) (sizes (goal.at.fill_one-requires c).In-Accepted).n-is (parity-none c.in-Accepted.z.k c.in-Accepted.z.n c.parity_flags.ensures),
+      );
     }
 
 -- the nodes that the flags choose are the parity nodes

@@ -3,11 +3,9 @@ use mathlib.Core.Path.{◌≡◌, refl, sym, subst, ◌∙◌}
 use mathlib.Core.Bool.{true, false, true≢false}
 use mathlib.Core.Logic.{inl, inr}
 use mathlib.Core.Option.{none, none-ne-some}
-use mathlib.Core.List.{List, [], ◌∷◌}
+use mathlib.Core.List.{List}
 use Prim.Native.Nat.{ℕ}
-use native.Mathlib.Omega.{arith}
 use lib.ListN.{length}
-use types.Run.{OneOf}
 use Rattle.rules.specs.declared.shapes.Shape.{Shape}
 use Rattle.rules.specs.Stripe.{stripe_length}
 use Rattle.rules.specs.Refusal.{shape_refusal}
@@ -29,7 +27,6 @@ whole-stands sh list count answer e p =
       falls = λ h. absurd (true≢false h);
     }
 
-
 other-falls : (sh : Shape) (list : List ℕ) (count : ℕ) → (count ≡ sh.r → ⊥) → shape_refusal sh ≡ none → length list ≡ stripe_length sh
     → (answer : Tested) → (answer ≡ tests.Whole → ⊥) → TestMeets sh list answer → Standing sh count list false
 other-falls sh list count fewer taken exact tests.Whole ne p = absurd (ne refl)
@@ -41,12 +38,6 @@ other-falls sh list count fewer taken exact (tests.Fails f) ne p =
     }
 other-falls sh list count fewer taken exact (tests.Refused q) ne p =
     absurd (none-ne-some q (sym (test-accepted sh list taken exact) ∙ sym p.answered))
-
-
-neither : OneOf (1 ∷ 2 ∷ []) 0 → ⊥
-neither (inl e) = omega arith
-neither (inr e) = omega arith
-
 
 pub returns-then-count-z : goal.returns-then-count-z
 returns-then-count-z c = record { stands = λ e. inl (c.if-count-z.true ∙ c.requires.sizes_are.r-is); not_all_used = λ e. absurd (true≢false e); falls = λ e. absurd (true≢false e) }

@@ -34,11 +34,9 @@ refused : {sh : Shape} {failed helper : ℕ} {given sums : List ℕ} {q : ℕ} �
     → AddMeets sh failed helper given sums (Refused q) sums
 refused {q = q} e = record { answered = sym e; written = λ h. absurd (none-ne-some q (sym h ∙ e)); kept = λ p h. refl }
 
-
 accepted : {sh : Shape} {failed helper : ℕ} {given sums later : List ℕ} → add_refusal sh failed helper given sums ≡ none
     → Added sh failed helper given sums later → AddMeets sh failed helper given sums Done later
 accepted e added = record { answered = sym e; written = λ h. added; kept = λ q h. absurd (none-ne-some q (sym e ∙ h)) }
-
 
 abbrev size : In-Accepted → Sizes
 size c = c.in-Accepted.z
@@ -104,7 +102,6 @@ group-below : (sh : Shape) (z : Sizes) → SizesAre sh z → (i : ℕ) → 1 ≤
 group-below sh z h i first last =
     let s = small sh z h in
     (div-lt_iff_lt-mul {k = z.s} {x = i - 1} {y = z.m} s.s-some).1 (omega (arith, first, last, s.nodes-least, h.n-is))
-
 
 helper-group : (c : Else-helper-failed) → (c.args.helper - 1) / c.in-Accepted.z.s < c.in-Accepted.z.m
 helper-group c = group-below _ c.in-Accepted.z (sizes (goal.at.Else-helper-failed c).In-Accepted) _ (helper-first (goal.at.Else-helper-failed c).Else-z-helper) (helper-last (goal.at.Else-helper-failed c).Else-z-helper)
@@ -238,9 +235,9 @@ add_lone-requires c =
       s_bound = ((few (goal.at.add_lone-requires c).In-Accepted).s-most, group-ends (goal.at.add_lone-requires c).Else-helper-failed);
       r_bound = ((few (goal.at.add_lone-requires c).In-Accepted).r-most, mod-lt _ (few (goal.at.add_lone-requires c).In-Accepted).s-some);
       s_len_bound = (
-              omega (arith, ap₂ (λ (x q : ℕ). x * q) (given-exact (goal.at.add_lone-requires c).Else-helper-failed) (sizes (goal.at.add_lone-requires c).In-Accepted).s-is, fraction-times sh (bound (goal.at.add_lone-requires c).In-Accepted), (bound (goal.at.add_lone-requires c).In-Accepted).l-most),
-              ap₂ (λ (x q : ℕ). x % q) (given-exact (goal.at.add_lone-requires c).Else-helper-failed) (ap₂ (λ (x q : ℕ). x * q) w-is (sizes (goal.at.add_lone-requires c).In-Accepted).s-is) ∙ fraction_periods sh (bound (goal.at.add_lone-requires c).In-Accepted) _ o.0 o.1,
-            );
+        omega (arith, ap₂ (λ (x q : ℕ). x * q) (given-exact (goal.at.add_lone-requires c).Else-helper-failed) (sizes (goal.at.add_lone-requires c).In-Accepted).s-is, fraction-times sh (bound (goal.at.add_lone-requires c).In-Accepted), (bound (goal.at.add_lone-requires c).In-Accepted).l-most),
+        ap₂ (λ (x q : ℕ). x % q) (given-exact (goal.at.add_lone-requires c).Else-helper-failed) (ap₂ (λ (x q : ℕ). x * q) w-is (sizes (goal.at.add_lone-requires c).In-Accepted).s-is) ∙ fraction_periods sh (bound (goal.at.add_lone-requires c).In-Accepted) _ o.0 o.1,
+      );
       sums_len = sums-exact (goal.at.add_lone-requires c).Else-helper-failed;
     }
 

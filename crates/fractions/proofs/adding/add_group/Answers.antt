@@ -46,14 +46,13 @@ pub loop-x-smaller : goal.loop-x-smaller
 loop-x-smaller c = omega (arith, c.loop-x-test.true)
 
 pub loop-x-preserved : goal.loop-x-preserved
-loop-x-preserved c =
-    (
-      omega (arith, c.loop-x-test.true),
-      gained-step c.args.shape c.args.first c.args.r c.args.l c.loop-x.x _ (weight_at c.args.s c.args.w c.args.l c.args.group.now) c.args.sums.now c.loop-x.sums _
-          (c.point-p.ensures.inside (omega arith) (omega (arith, node-most (goal.at.loop-x-preserved c).In-loop-x)))
-          c.loop-x.invariant.1
-          (node-shared c.add_node.result c.add_node.ensures (addable (goal.at.loop-x-preserved c).In-loop-x)),
-    )
+loop-x-preserved c = (
+  omega (arith, c.loop-x-test.true),
+  gained-step c.args.shape c.args.first c.args.r c.args.l c.loop-x.x _ (weight_at c.args.s c.args.w c.args.l c.args.group.now) c.args.sums.now c.loop-x.sums _
+      (c.point-p.ensures.inside (omega arith) (omega (arith, node-most (goal.at.loop-x-preserved c).In-loop-x)))
+      c.loop-x.invariant.1
+      (node-shared c.add_node.result c.add_node.ensures (addable (goal.at.loop-x-preserved c).In-loop-x)),
+)
 
 pub shape_of-sums : goal.shape_of-sums
 shape_of-sums c = c.loop-x.invariant.1.same_length

@@ -27,7 +27,7 @@ use Rattle.layout.proofs.layouts.read_layout.Goals.{After-first_wrong_offset, Af
 abbrev bytes : Else-pack-lt-HEADER → List ℕ
 bytes c = c.args.pack.now
 
-a_byte : (c : Else-pack-lt-HEADER) →  (k : ℕ) → get_or (bytes c) k 0 < 256
+a_byte : (c : Else-pack-lt-HEADER) → (k : ℕ) → get_or (bytes c) k 0 < 256
 a_byte c k = (c.type_inv.pack k).fits
 
 shape_is : (c : After-measure) → c.new-shape.result ≡ shape_in c.args.pack.now

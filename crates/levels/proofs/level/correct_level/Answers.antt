@@ -159,7 +159,7 @@ nodes-enough : (c : Start) → c.args.shape.n ≤ c.args.z.m * c.args.z.s
 nodes-enough c = omega (arith, (few c).nodes-least, (sizes c).n-is)
 
 -- each lost node has its column among all of them
-fitting : (c : Start) →  (size : ℕ) → size ≡ nodes-end c → Fitting c.args.nodes c.args.count c.args.z.l size
+fitting : (c : Start) → (size : ℕ) → size ≡ nodes-end c → Fitting c.args.nodes c.args.count c.args.z.l size
 fitting c size e =
     let sh = c.args.shape in
     subst (λ k. Fitting c.args.nodes k c.args.z.l size) (sym c.requires.count_value.0)

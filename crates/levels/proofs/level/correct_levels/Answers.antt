@@ -32,7 +32,6 @@ fits c = bounds c.args.shape (sizes c).taken
 few-chosen : (sh : Shape) (z : Sizes) (flags : List Bool) {k : ℕ} → SizesAre sh z → k ≡ count sh.n (chosen flags) → k ≤ sh.r → count z.n (chosen flags) ≤ 4
 few-chosen sh z flags h e few = subst (λ n. count n (chosen flags) ≤ 4) (sym h.n-is) (omega (arith, few, (bounds sh h.taken).r-most))
 
-
 -- the nodes listed and the scores are those of the shape
 nodes-are : (c : After-listed-nodes) → ListedAre c.args.shape.n c.args.flags c.listed-nodes.result
 nodes-are c =
@@ -63,24 +62,22 @@ correct_level-requires c =
       listed_are = (nodes-are (goal.at.correct_level-requires c).After-listed-nodes, c.points_of-points.ensures, scores-are (goal.at.correct_level-requires c).After-scores_of-scores);
     }
 
-
-
 pub loop-level-preserved : goal.loop-level-preserved
 loop-level-preserved c =
     let stage = LevelsDone c.args.shape c.args.flags c.args.count c.args.stripe.now (c.loop-level.level + 1) in (
       omega arith,
       elim c.if-any_at.branch [
-          then-any_at way ↦ subst stage (sym way.stripe-is)
-          (done-corrected c.args.shape (fits (goal.at.loop-level-preserved c).Start) c.args.flags c.args.count c.args.stripe.now c.loop-level.level c.loop-level.stripe _
-          c.loop-level.invariant.1
-          way.correct_level.ensures)
-          | else-any_at way ↦ subst stage (sym way.stripe-is)
-          (done_none c.args.shape (fits (goal.at.loop-level-preserved c).Start) c.args.flags c.args.count c.args.stripe.now c.loop-level.level c.args.z.l c.scores_of-scores.result c.loop-level.stripe
-          (sizes (goal.at.loop-level-preserved c).Start).l-is
-          (scores-are (goal.at.loop-level-preserved c).After-scores_of-scores)
-          c.loop-level.invariant.1
-          (subst (AnyIs (take c.args.z.l c.scores_of-scores.result) c.loop-level.level) way.if-any_at.false c.any_at.ensures))
-          ],
+        | then-any_at way ↦ subst stage (sym way.stripe-is)
+            (done-corrected c.args.shape (fits (goal.at.loop-level-preserved c).Start) c.args.flags c.args.count c.args.stripe.now c.loop-level.level c.loop-level.stripe _
+            c.loop-level.invariant.1
+            way.correct_level.ensures)
+        | else-any_at way ↦ subst stage (sym way.stripe-is)
+            (done_none c.args.shape (fits (goal.at.loop-level-preserved c).Start) c.args.flags c.args.count c.args.stripe.now c.loop-level.level c.args.z.l c.scores_of-scores.result c.loop-level.stripe
+            (sizes (goal.at.loop-level-preserved c).Start).l-is
+            (scores-are (goal.at.loop-level-preserved c).After-scores_of-scores)
+            c.loop-level.invariant.1
+            (subst (AnyIs (take c.args.z.l c.scores_of-scores.result) c.loop-level.level) way.if-any_at.false c.any_at.ensures))
+      ],
     )
 
 pub returns : goal.returns

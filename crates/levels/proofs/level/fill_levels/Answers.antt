@@ -54,7 +54,6 @@ counted c =
 all-below : (n : ℕ) (flags : List Bool) → n ≤ 16 → NoneFrom n flags → count 16 (chosen flags) ≡ count n (chosen flags)
 all-below n flags h none = count-beyond n 16 (chosen flags) none h
 
-
 pub returns-then-count-count_of : goal.returns-then-count-count_of
 returns-then-count-count_of c =
     cannot-fill _ _ _ (λ way. omega (

@@ -5,7 +5,7 @@ use native.Mathlib.Nat.{le_antisymm}
 use native.Mathlib.Omega.{arith}
 use lib.ListN.{length, get_or, take, drop}
 use Rattle.columns.proofs.Kernels.{column-within, product_small}
-use Rattle.columns.proofs.Parts.{parts_as_long}
+use Rattle.columns.proofs.Parts.{copied-over, parts_as_long}
 use Rattle.yebarg.proofs.Lists.{laid-over-all}
 use Rattle.levels.specs.Kernel.{Placed}
 use Rattle.levels.proofs.Placements.{placed_start, placed-step}
@@ -67,9 +67,6 @@ both : (c : In-loop-j) → length (take (node c * size c + size c - node c * siz
     ≡ length (take (at c * size c + size c - at c * size c) (drop (at c * size c) c.args.found.now))
 both c = parts_as_long (size c) (node c * size c) (at c * size c) c.loop-j.to c.args.found.now (to-within c) (found_within c)
 
-pub copy-requires : goal.copy-requires
-copy-requires c = omega (arith, both (goal.at.copy-requires c).In-loop-j)
-
 pub overflow_add-j : goal.overflow_add-j
 overflow_add-j c = record { fits = omega (arith, c.loop-j-test.true, c.requires.count_bound.0) }
 
@@ -78,10 +75,11 @@ loop-j-smaller c = omega (arith, c.loop-j-test.true)
 
 pub loop-j-preserved : goal.loop-j-preserved
 loop-j-preserved c =
-    let x = c.loop-j in (
+    let x = c.loop-j in
+    let same = both (goal.at.loop-j-preserved c).In-loop-j in (
       omega (arith, c.loop-j-test.true),
       placed-step c.args.nodes c.args.l x.j c.args.found.now c.args.to.now x.to x.invariant.1 c.requires.once c.loop-j-test.true
-          (found_within (goal.at.loop-j-preserved c).In-loop-j) (to-within (goal.at.loop-j-preserved c).In-loop-j) _ (c.copy.ensures.bytes ∙ laid-over-all _ _ (both (goal.at.loop-j-preserved c).In-loop-j)),
+          (found_within (goal.at.loop-j-preserved c).In-loop-j) (to-within (goal.at.loop-j-preserved c).In-loop-j) _ (copied-over (omega (arith, same)) c.copy.ensures ∙ laid-over-all _ _ same),
     )
 
 pub shape_of-to : goal.shape_of-to

@@ -8,7 +8,7 @@ use native.Mathlib.Omega.{arith}
 use lib.ListN.{length, get_or, take, drop}
 use borrow.Rule.Slice.PartMut.{put_mid}
 use Rattle.columns.proofs.Kernels.{column-within}
-use Rattle.columns.proofs.Parts.{part_length, part-byte, parts_as_long}
+use Rattle.columns.proofs.Parts.{copied-over, part_length, part-byte, parts_as_long}
 use Rattle.yebarg.proofs.Lists.{laid-over-all}
 use Rattle.corrections.specs.Correction.{chosen}
 use Rattle.columns.proofs.Columns.{ColumnsTo, columns_start, columns-put, columns_skip, columns-within}
@@ -80,11 +80,6 @@ both : (l i : ℕ) (xs ys : List ℕ) → i * l + l ≤ length xs → i * l + l 
     → length (take (i * l + l - i * l) (drop (i * l) xs)) ≡ length (take (i * l + l - i * l) (drop (i * l) ys))
 both l i = parts_as_long l (i * l) (i * l)
 
-
-pub copy-requires : goal.copy-requires
-copy-requires c =
-    omega (arith, both c.args.l c.loop-i.i c.loop-i.to c.args.from.now (to-within (goal.at.copy-requires c).In-loop-i) (from-within (goal.at.copy-requires c).In-loop-i))
-
 pub overflow_add-i : goal.overflow_add-i
 overflow_add-i c = record { fits = omega (arith, c.loop-i-test.true, (way (goal.at.overflow_add-i c).At-loop-i).few) }
 
@@ -104,24 +99,25 @@ put_step flags l i from before xs ys inside fits e is was =
     (λ a h. ap (λ (zs : List ℕ). get_or zs a 0) is ∙ part-byte (i * l) l from inside a h
     ∙ ap (λ b. cond b (get_or from (i * l + a) 0) (get_or before (i * l + a) 0)) (sym e))
 
-
 skip_step : (flags : List Bool) (l i : ℕ) (from before xs : List ℕ) → chosen flags i ≡ false
     → ColumnsTo (copied_at flags l from before) l i before xs → ColumnsTo (copied_at flags l from before) l (i + 1) before xs
 skip_step flags l i from before xs e was =
     columns_skip _ l i before xs was (λ a h. ap (λ b. cond b (get_or from (i * l + a) 0) (get_or before (i * l + a) 0)) (sym e))
 
-
 pub loop-i-preserved : goal.loop-i-preserved
 loop-i-preserved c =
-    let x = c.loop-i in (
+    let x = c.loop-i in
+    let to-ends = to-within (goal.at.loop-i-preserved c).In-loop-i in
+    let from-ends = from-within (goal.at.loop-i-preserved c).In-loop-i in
+    let same = both c.args.l x.i x.to c.args.from.now to-ends from-ends in (
       omega (arith, c.loop-i-test.true),
       elim c.if-flags-i.branch [
-          then-flags-i w ↦ subst (ColumnsTo (copied_at c.args.flags c.args.l c.args.from.now c.args.to.now) c.args.l (x.i + 1) c.args.to.now) (sym w.to-is)
-          (put_step c.args.flags c.args.l x.i c.args.from.now c.args.to.now x.to _ (from-within (goal.at.loop-i-preserved c).In-loop-i) (to-within (goal.at.loop-i-preserved c).In-loop-i) w.if-flags-i.true
-          (w.copy.ensures.bytes ∙ laid-over-all _ _ (both c.args.l x.i _ _ (to-within (goal.at.loop-i-preserved c).In-loop-i) (from-within (goal.at.loop-i-preserved c).In-loop-i))) x.invariant.1)
-          | else-flags-i w ↦ subst (ColumnsTo (copied_at c.args.flags c.args.l c.args.from.now c.args.to.now) c.args.l (x.i + 1) c.args.to.now) (sym w.to-is)
-          (skip_step c.args.flags c.args.l x.i c.args.from.now c.args.to.now x.to w.if-flags-i.false x.invariant.1)
-          ],
+        | then-flags-i w ↦ subst (ColumnsTo (copied_at c.args.flags c.args.l c.args.from.now c.args.to.now) c.args.l (x.i + 1) c.args.to.now) (sym w.to-is)
+            (put_step c.args.flags c.args.l x.i c.args.from.now c.args.to.now x.to _ from-ends to-ends w.if-flags-i.true
+            (copied-over (omega (arith, same)) w.copy.ensures ∙ laid-over-all _ _ same) x.invariant.1)
+        | else-flags-i w ↦ subst (ColumnsTo (copied_at c.args.flags c.args.l c.args.from.now c.args.to.now) c.args.l (x.i + 1) c.args.to.now) (sym w.to-is)
+            (skip_step c.args.flags c.args.l x.i c.args.from.now c.args.to.now x.to w.if-flags-i.false x.invariant.1)
+      ],
     )
 
 pub shape_of-to : goal.shape_of-to

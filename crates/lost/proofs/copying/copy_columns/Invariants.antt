@@ -10,7 +10,6 @@ use Rattle.lost.proofs.copying.copy_columns.Given as goal
 abbrev pub copied_at : List Bool → ℕ → List ℕ → List ℕ → ℕ → ℕ → ℕ
 copied_at flags l from before i a = cond (chosen flags i) (get_or from (i * l + a) 0) (get_or before (i * l + a) 0)
 
-
 abbrev pub invariant-loop-i : goal.invariant-loop-i
 invariant-loop-i l = (l.i ≤ l.n) × ColumnsTo (copied_at l.flags l.l l.from l.initial.to) l.l l.i l.initial.to l.to
 

@@ -9,7 +9,7 @@ use Rattle.offsets.proofs.numbers.four_bytes.Goals.{After-shared_slice_known-1}
 first_byte : (c : After-shared_slice_known-1) → get_or c.args.pack.now c.args.at 0 < 256
 first_byte c = (c.type_inv.pack c.args.at).fits
 
-byte-after : (c : After-shared_slice_known-1) →  (k : ℕ) → get_or c.args.pack.now (c.args.at + k) 0 < 256
+byte-after : (c : After-shared_slice_known-1) → (k : ℕ) → get_or c.args.pack.now (c.args.at + k) 0 < 256
 byte-after c k = (c.type_inv.pack (c.args.at + k)).fits
 
 pub overflow_cast-low : goal.overflow_cast-low

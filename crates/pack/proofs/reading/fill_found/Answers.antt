@@ -11,7 +11,7 @@ use Rattle.rules.specs.Stripe.{stripe_length}
 use Rattle.rules.specs.Promise.{SizesAre}
 use Rattle.rules.proofs.Measures.{Small, small, measured-sizes, measured-refused, refused_not_accepted}
 use Rattle.rules.proofs.LostSets.{lost-below}
-use Rattle.columns.proofs.Parts.{zeros-length, front_fits, front_length}
+use Rattle.columns.proofs.Parts.{zeros-length, front_fits, front_length, copied-over}
 use Rattle.yebarg.specs.declared.answers.Outcome.{Outcome}
 use Rattle.rules.proofs.Lengths.{stripe-is}
 use Rattle.fill.specs.Promise.{FillMeets}
@@ -110,10 +110,6 @@ slice_bounds-scratch-end-in-Done c = omega (arith, (front-there (goal.at.slice_b
 pub slice_bounds-copy-end : goal.slice_bounds-copy-end
 slice_bounds-copy-end c = omega (arith, (front-there (goal.at.slice_bounds-copy-end c).After-fill).1)
 
-pub copy-requires : goal.copy-requires
-copy-requires c =
-    omega (arith, (front-there (goal.at.copy-requires c).After-fill).1, end-most (goal.at.copy-requires c).In-Accepted, c.requires.stripe_len)
-
 -- the zeros that the columns were put over
 abbrev blank : In-Accepted → List ℕ
 blank c = take (end c) (replicate 4096 0)
@@ -125,7 +121,7 @@ lost-is : (c : After-place_columns) → let found = c.args.found in c.others_of-
 lost-is c = c.others_of-lost.ensures
 
 -- what `fill` says of the columns as they were placed
-met : (c : After-fill) →  {answer : Outcome} → c.fill.result ≡ answer → let found = c.args.found in
+met : (c : After-fill) → {answer : Outcome} → c.fill.result ≡ answer → let found = c.args.found in
     FillMeets found.shape (others found.shape found.held) c.place_columns.new.stripe answer (filled c)
 met c {answer} e =
     let sh = c.args.found.shape in
@@ -144,7 +140,8 @@ later-is : (c : After-copy) → c.copy.new.to ≡ c.fill.new.stripe ++ drop (str
 later-is c =
     let before = c.args.stripe.now in
     let front = take (c.in-Accepted.z.n * c.in-Accepted.z.l) (c.fill.new.stripe ++ (drop (c.in-Accepted.z.n * c.in-Accepted.z.l) (c.place_columns.new.stripe ++ (drop (c.in-Accepted.z.n * c.in-Accepted.z.l) (replicate 4096 0))))) in
-    let written : c.copy.new.to ≡ take (length front) front ++ drop (length front) before = c.copy.ensures.bytes in
+    let written : c.copy.new.to ≡ take (length front) front ++ drop (length front) before =
+    copied-over (omega (arith, (front-there (goal.at.After-copy c).After-fill).1, end-most (goal.at.After-copy c).In-Accepted, c.requires.stripe_len)) c.copy.ensures in
     written
     ∙ ap₂ (λ (u v : List ℕ). u ++ v) (take-length front ∙ take_at c.fill.new.stripe (drop (c.in-Accepted.z.n * c.in-Accepted.z.l) (c.place_columns.new.stripe ++ (drop (c.in-Accepted.z.n * c.in-Accepted.z.l) (replicate 4096 0)))) (c.in-Accepted.z.n * c.in-Accepted.z.l) (filled-length (goal.at.After-copy c).After-fill))
     (ap (λ k. drop k before) ((front-there (goal.at.After-copy c).After-fill).1 ∙ end_is (goal.at.After-copy c).In-Accepted))
@@ -156,7 +153,6 @@ left_as : (found : Found) (pack before : List ℕ) {lost lost' : ℕ} {later lat
 left_as found pack before {lost} {lost'} {later} e f p =
     subst (λ set. FoundMeets found pack before (Accepted (record { shape = found.shape; lost = set })) later) (sym e)
     (subst (FoundMeets found pack before (Accepted (record { shape = found.shape; lost = lost' }))) (sym f) p)
-
 
 pub returns-in-Done : goal.returns-in-Done
 returns-in-Done c =

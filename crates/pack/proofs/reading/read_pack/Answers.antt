@@ -15,9 +15,9 @@ found-is c = c.read_layout.ensures.finds c.in-Accepted.found c.in-Accepted.is
 
 pub fill_found-requires : goal.fill_found-requires
 fill_found-requires c = record {
-      layout_is = found-is (goal.at.fill_found-requires c).In-Accepted;
-      stripe_len = c.if-stripe-ne-LARGEST_STRIPE.false;
-    }
+  layout_is = found-is (goal.at.fill_found-requires c).In-Accepted;
+  stripe_len = c.if-stripe-ne-LARGEST_STRIPE.false;
+}
 
 pub returns-in-Refused : goal.returns-in-Refused
 returns-in-Refused c =

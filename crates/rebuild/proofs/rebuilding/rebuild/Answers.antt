@@ -35,11 +35,9 @@ refused : {sh : Shape} {failed : ℕ} {fractions col : List ℕ} {q : ℕ} → r
     → RebuildMeets sh failed fractions col (Refused q) col
 refused {q = q} e = record { answered = sym e; rebuilt = λ h. absurd (none-ne-some q (sym h ∙ e)); kept = λ p h. refl }
 
-
 accepted : {sh : Shape} {failed : ℕ} {fractions col later : List ℕ} → rebuild_refusal sh failed fractions col ≡ none
     → Rebuilt sh failed fractions later → RebuildMeets sh failed fractions col Done later
 accepted e rebuilt = record { answered = sym e; rebuilt = λ h. rebuilt; kept = λ q h. absurd (none-ne-some q (sym e ∙ h)) }
-
 
 abbrev size : In-Accepted → Sizes
 size c = c.in-Accepted.z
@@ -69,7 +67,6 @@ end_is c = sums_are _ _ (sizes c)
 sums_are_rows : (sh : Shape) → Bounds sh → sh.r * fraction_length sh ≡ rows sh
 unfolding group_size
 sums_are_rows sh b = omega (arith, fraction-times sh b)
-
 
 end-most : (c : In-Accepted) → end c ≤ 256
 end-most c = omega (arith, end_is c, sums_are_rows c.args.shape (bound c), (bound c).l-most)

@@ -19,7 +19,6 @@ use Rattle.rebuild.proofs.summing.add_helper.Goals.{After-add_fraction, After-he
 part-within : (n size q : ℕ) (xs : List ℕ) → suc q ≤ n - 1 → length xs ≡ (n - 1) * size → q * size + size ≤ length xs
 part-within n size q xs h long = omega (arith, mul-le-mul_right size h, long)
 
-
 within : (c : After-helper_before) → c.helper_before.result * c.args.size + c.args.size ≤ length c.args.fractions.now
 within c =
     part-within c.args.shape.n c.args.size c.helper_before.result c.args.fractions.now
@@ -36,7 +35,7 @@ pub returns-then-i-failed : goal.returns-then-i-failed
 returns-then-i-failed c = sums_skip c.args.shape c.args.failed c.args.fractions.now (bounds c.args.shape c.requires.shape_value.0) c.args.i c.args.sums.now c.if-i-failed.true c.requires.sums_are
 
 pub helper_before-requires : goal.helper_before-requires
-helper_before-requires c = record { le_failed = (c.requires.le_failed.0, c.requires.le_i.0); fact = c.if-i-failed.false }
+helper_before-requires c = record { le_failed = (c.requires.le_failed.0, c.requires.le_i.0); not_failed = c.if-i-failed.false }
 
 pub overflow_mul-start : goal.overflow_mul-start
 overflow_mul-start c = record { fits = omega (arith, within (goal.at.overflow_mul-start c).After-helper_before, fractions-small (goal.at.overflow_mul-start c).After-helper_before) }

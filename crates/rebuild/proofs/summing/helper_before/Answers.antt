@@ -12,7 +12,7 @@ unfolding helper_before
 returns-then-i-failed c = rw (lt-ltb _ _ c.if-i-failed.true)
 
 pub overflow_sub-result-2 : goal.overflow_sub-result-2
-overflow_sub-result-2 c = omega (arith, c.if-i-failed.false, c.requires.le_failed.0, c.requires.fact)
+overflow_sub-result-2 c = omega (arith, c.if-i-failed.false, c.requires.le_failed.0, c.requires.not_failed)
 
 pub returns : goal.returns
 unfolding helper_before

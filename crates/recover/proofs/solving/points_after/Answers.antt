@@ -15,7 +15,6 @@ four sh first p q r s is-p is-q is-r is-s (suc (suc zero)) h = is-r
 four sh first p q r s is-p is-q is-r is-s (suc (suc (suc zero))) h = is-s
 four sh first p q r s is-p is-q is-r is-s (suc (suc (suc (suc u)))) h = absurd (omega arith)
 
-
 pub returns : goal.returns
 returns c = record {
   each =

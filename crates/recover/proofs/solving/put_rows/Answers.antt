@@ -55,7 +55,6 @@ module _ {s w a above d j : ℕ} (split : Split s w a above d j) where
     below-small = omega (arith, e);
   })
 
-
 pub loop-a-init : goal.loop-a-init
 loop-a-init c = (
   omega arith,
@@ -119,16 +118,15 @@ pub loop-a-smaller : goal.loop-a-smaller
 loop-a-smaller c = omega (arith, here (goal.at.loop-a-smaller c).In-loop-a)
 
 pub loop-a-preserved : goal.loop-a-preserved
-loop-a-preserved c =
-    (
-      omega (arith, here (goal.at.loop-a-preserved c).In-loop-a),
-      written_step c.loop-a.invariant.1 _ (here (goal.at.loop-a-preserved c).In-loop-a) (ap (λ i. get_or c.args.found.now i 0) (index_is (split (goal.at.loop-a-preserved c).In-loop-a) c.args.size)),
-      elim c.if-j-w.branch [
-          then-j-w+then-d-s w ↦ split_around (split (goal.at.loop-a-preserved c).In-loop-a) w.if-j-w.true w.if-d-s.true w.above-is w.d-is w.j-is
-          | then-j-w+else-d-s w ↦ split-over (split (goal.at.loop-a-preserved c).In-loop-a) w.if-j-w.true w.if-d-s.false w.above-is w.d-is w.j-is
-          | else-j-w w ↦ split-within (split (goal.at.loop-a-preserved c).In-loop-a) w.if-j-w.false w.above-is w.d-is w.j-is
-          ],
-    )
+loop-a-preserved c = (
+  omega (arith, here (goal.at.loop-a-preserved c).In-loop-a),
+  written_step c.loop-a.invariant.1 _ (here (goal.at.loop-a-preserved c).In-loop-a) (ap (λ i. get_or c.args.found.now i 0) (index_is (split (goal.at.loop-a-preserved c).In-loop-a) c.args.size)),
+  elim c.if-j-w.branch [
+    | then-j-w+then-d-s w ↦ split_around (split (goal.at.loop-a-preserved c).In-loop-a) w.if-j-w.true w.if-d-s.true w.above-is w.d-is w.j-is
+    | then-j-w+else-d-s w ↦ split-over (split (goal.at.loop-a-preserved c).In-loop-a) w.if-j-w.true w.if-d-s.false w.above-is w.d-is w.j-is
+    | else-j-w w ↦ split-within (split (goal.at.loop-a-preserved c).In-loop-a) w.if-j-w.false w.above-is w.d-is w.j-is
+  ],
+)
 
 pub shape_of-column : goal.shape_of-column
 shape_of-column c = c.loop-a.invariant.1.same_length

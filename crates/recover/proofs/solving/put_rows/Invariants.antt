@@ -11,7 +11,6 @@ pub record Split (s w a above d j : ℕ) : Type 0 where
   pub digit-small : d < s
   pub below-small : j < w
 
-
 abbrev pub invariant-loop-a : goal.invariant-loop-a
 invariant-loop-a l = (l.a ≤ l.l) × Written (λ b. get_or l.found (b / l.w % l.s * l.size + position_of l.s l.w b) 0) l.a l.initial.column l.column × Split l.s l.w l.a l.above l.d l.j
 

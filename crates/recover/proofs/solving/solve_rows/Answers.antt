@@ -32,7 +32,6 @@ refused out = record {
   kept = λ e. refl;
 }
 
-
 accepted : {sh : Shape} {f : ℕ} {sums before later : List ℕ} → Recoverable sh f sums before → RowsSolved sh f sums later
     → SolveRowsIs sh f sums before true later
 accepted way solved = record {
@@ -41,7 +40,6 @@ accepted way solved = record {
   cannot = λ e. absurd (true≢false e);
   kept = λ e. absurd (true≢false e);
 }
-
 
 abbrev shape : In-Accepted → Shape
 shape c = c.args.shape
@@ -174,14 +172,14 @@ put_rows-requires c =
         (few (goal.at.put_rows-requires c).In-Accepted).s-some,
       );
       s_bound = (
-          omega (
-            arith,
-            ap₂ (λ (p q : ℕ). p * q) (worth-right (goal.at.put_rows-requires c).After-worth) (sizes (goal.at.put_rows-requires c).In-Accepted).s-is,
-            worth-room sh (bound (goal.at.put_rows-requires c).In-Accepted) (group sh f) (group_from_1 sh f) (group-most sh (bound (goal.at.put_rows-requires c).In-Accepted) f way.first way.last),
-            (bound (goal.at.put_rows-requires c).In-Accepted).l-most,
-          ),
-          ap₂ (λ (p q : ℕ). p % q) (size_is (goal.at.put_rows-requires c).In-Accepted) (worth-right (goal.at.put_rows-requires c).After-worth) ∙ fraction-worth sh (bound (goal.at.put_rows-requires c).In-Accepted) f way.first way.last,
-        );
+        omega (
+          arith,
+          ap₂ (λ (p q : ℕ). p * q) (worth-right (goal.at.put_rows-requires c).After-worth) (sizes (goal.at.put_rows-requires c).In-Accepted).s-is,
+          worth-room sh (bound (goal.at.put_rows-requires c).In-Accepted) (group sh f) (group_from_1 sh f) (group-most sh (bound (goal.at.put_rows-requires c).In-Accepted) f way.first way.last),
+          (bound (goal.at.put_rows-requires c).In-Accepted).l-most,
+        ),
+        ap₂ (λ (p q : ℕ). p % q) (size_is (goal.at.put_rows-requires c).In-Accepted) (worth-right (goal.at.put_rows-requires c).After-worth) ∙ fraction-worth sh (bound (goal.at.put_rows-requires c).In-Accepted) f way.first way.last,
+      );
       found_len = (front_length c.unknowns.new.found (drop (c.in-Accepted.z.s * (c.in-Accepted.z.l / c.in-Accepted.z.s)) (replicate 256 0)) (c.in-Accepted.z.s * (c.in-Accepted.z.l / c.in-Accepted.z.s)) (found-exact (goal.at.put_rows-requires c).After-unknowns), way.column-exact ∙ sym (end_is (goal.at.put_rows-requires c).In-Accepted));
       size_bound = end-most (goal.at.put_rows-requires c).In-Accepted;
     }

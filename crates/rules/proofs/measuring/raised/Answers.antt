@@ -12,10 +12,8 @@ loop-j-init c = (omega arith, sym (pow-zero c.args.s))
 bounded : (s j : ℕ) → s ≤ 4 → j ≤ 8 → s ^ j ≤ 65536
 bounded s j hs hj = le_trans (pow-le-pow_left hs j) (pow-le-pow_right {n = 4} (omega arith) hj)
 
-
 step : (s j : ℕ) → s ^ j * s ≡ s ^ (j + 1)
 step s j = sym (pow-suc s j) ∙ ap (λ k. s ^ k) (omega arith)
-
 
 pub overflow_mul-l : goal.overflow_mul-l
 overflow_mul-l c =

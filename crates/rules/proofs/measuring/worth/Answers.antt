@@ -45,7 +45,6 @@ there-is sh v w k p q e = record { inside = λ x y z. e; outside = none_of }
     none_of (inr (inl h)) = absurd (omega (arith, h, p))
     none_of (inr (inr h)) = absurd (omega (arith, h, q))
 
-
 pub returns : goal.returns
 unfolding worth
 returns c =

@@ -27,7 +27,6 @@ returns-then-size-gt256 c = cannot-solve _ _ _ _ _ (λ way. omega (arith, way.sh
 byte_fits : {x : ℕ} → Fits w8 x → x < 256
 byte_fits f = f.fits
 
-
 product-fits : (c : Else-size-gt256) → c.args.count * c.args.size ≤ 1024
 product-fits c = product_small (few-apart (goal.at.Else-size-gt256 c).Else-not-apart).few c.if-size-gt256.false
 

@@ -45,8 +45,7 @@ combine-requires c =
 
 pub loop-j-preserved : goal.loop-j-preserved
 loop-j-preserved c =
-    let x = c.loop-j in
-    (
+    let x = c.loop-j in (
       omega (arith, c.loop-j-test.true),
       written_more x.j c.args.count c.args.rows c.args.size c.args.sums.now c.args.found.now x.found c.combine.new.column c.requires.count_bound.0 (part-within (goal.at.loop-j-preserved c).In-loop-j)
           x.invariant.1

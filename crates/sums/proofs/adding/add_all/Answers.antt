@@ -64,7 +64,6 @@ start_end c = omega (arith, (room_at (goal.at.After-lesser-stop c).In-loop-i).st
 within : (e a b n : ℕ) → e ≡ min a b → n ≡ b → e ≤ n
 within e a b n h k = omega (arith, h, k, min-le_right a b)
 
-
 pub slice_bounds-add_node-count : goal.slice_bounds-add_node-count
 slice_bounds-add_node-count c = start_end (goal.at.slice_bounds-add_node-count c).After-lesser-stop
 

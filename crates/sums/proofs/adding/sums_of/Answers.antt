@@ -25,7 +25,6 @@ refused : {sh : Shape} {stripe buffer : List ℕ} {q : ℕ} → sums_refusal sh 
 refused {sh} {stripe} {buffer} {q} e =
     record { answered = sym e; written = λ h. absurd (none-ne-some q (sym h ∙ e)); kept = λ p h. refl }
 
-
 abbrev size : In-Accepted → Sizes
 size c = c.in-Accepted.z
 

@@ -12,7 +12,6 @@ use Rattle.sums.proofs.testing.lowest.Goals as goal
 first-none : {r l : ℕ} {sums : List ℕ} {a t : ℕ} → FirstT r l sums a t → r ≤ t → FirstT r l sums a r
 first-none {r} {l} {sums} {a} first h = subst (FirstT r l sums a) (le_antisymm first.most h) first
 
-
 pub loop-a-init : goal.loop-a-init
 loop-a-init c = below_none _
 

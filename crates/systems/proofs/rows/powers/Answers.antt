@@ -13,7 +13,6 @@ use Rattle.systems.proofs.rows.powers.Goals as goal
 ones : List ℕ
 ones = 1 ∷ 1 ∷ 1 ∷ 1 ∷ []
 
-
 pub returns : goal.returns
 unfolding power ones
 returns c =

@@ -11,10 +11,8 @@ use Rattle.systems.proofs.rows.quotient.Goals as goal
 divided : (a b : ℕ) {x : Quotient} {q : ℕ} → QuotientIs a b x → x ≡ Number q → Divided a b q
 divided a b h e = subst (QuotientIs a b) e h
 
-
 barred : (a b : ℕ) {x : Quotient} {n : ℕ} → QuotientIs a b x → x ≡ Refused n → Barred b n
 barred a b h e = subst (QuotientIs a b) e h
-
 
 pub returns-in_default : goal.returns-in_default
 returns-in_default c =

@@ -22,10 +22,10 @@ returns-then-not-apart c =
 abbrev points : After-given_stage-sides → List ℕ
 points c = c.args.points
 
-points-small : (c : After-given_stage-sides) →  (j : ℕ) → get_or (points c) j 0 < 256
+points-small : (c : After-given_stage-sides) → (j : ℕ) → get_or (points c) j 0 < 256
 points-small c = array_byte 4 (points c) _ c.well_formed.1.0
 
-given-small : (c : After-given_stage-sides) →  (j : ℕ) → get_or c.args.given j 0 < 256
+given-small : (c : After-given_stage-sides) → (j : ℕ) → get_or c.args.given j 0 < 256
 given-small c = array_byte 4 c.args.given _ c.well_formed.1.1.0
 
 abbrev table : After-given_stage-sides → ℕ → ℕ → ℕ → ℕ
@@ -35,7 +35,7 @@ table c k i j =
     (λ h. entry c.stage-rows.result h j)
     k i
 
-table-stages : (c : After-given_stage-sides) →  (j : ℕ) → j < 4 → Stages (points c) (λ k i. table c k i j)
+table-stages : (c : After-given_stage-sides) → (j : ℕ) → j < 4 → Stages (points c) (λ k i. table c k i j)
 table-stages c j h =
     stages (points c) _ _ _ _ (λ i l. c.stage.ensures.each i j l h) (λ i l. c.stage-2.ensures.each i j l h)
     (λ i l. c.stage-rows.ensures.each i j l h)
@@ -74,7 +74,7 @@ returns c =
         sums =
             elimination_solves c.args.points (table (goal.at.returns c).After-given_stage-sides) (table-stages (goal.at.returns c).After-given_stage-sides) powers (points-small (goal.at.returns c).After-given_stage-sides) c.args.count way.few way.apart
             (after (λ h. get_or c.args.given h 0) (λ h. get_or c.given_stage.result h 0) (λ h. get_or c.given_stage-2.result h 0)
-    (λ h. get_or c.given_stage-sides.result h 0))
+            (λ h. get_or c.given_stage-sides.result h 0))
             (sides-stages (goal.at.returns c).After-given_stage-sides)
             (given-small (goal.at.returns c).After-given_stage-sides)
             (λ j. get_or c.substituted.result j 0)

@@ -22,10 +22,8 @@ use Rattle.text.proofs.lines.put_column.Goals.{After-put_bytes-column, After-put
 abbrev to_node : ℕ → List ℕ
 to_node i = letters "column" ++ spaced (i + 1)
 
-
 abbrev to_bytes : Shape → List ℕ → ℕ → List ℕ
 to_bytes sh stripe i = to_node i ++ spaced_all (column sh stripe (suc i))
-
 
 -- the column is within the stripe
 column-there : (c : Start) → c.args.i * c.args.z.l + c.args.z.l ≤ 4096

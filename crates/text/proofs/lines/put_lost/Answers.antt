@@ -17,7 +17,6 @@ use Rattle.text.proofs.lines.put_lost.Goals.{After-put_nodes-nodes, Else-nodes-w
 abbrev to_nodes : Shape → ℕ → List ℕ
 to_nodes sh lost = letters "lost" ++ spaced_all (nodes_of sh lost)
 
-
 nodes-fit : (c : Start) → Fits c.args.at (to_nodes c.args.shape c.args.lost) c.args.text.now
 nodes-fit c = omega (arith, c.requires.fits, lost-long c.args.shape c.args.lost)
 

@@ -57,10 +57,10 @@ pub loop-i-preserved : goal.loop-i-preserved
 loop-i-preserved c =
     let x = c.loop-i in
     elim c.if-set-i-eq1.branch [
-          then-set-i-eq1 w ↦ rw (w.text-is, w.stop-is)
-    (nodes-put-step spaced _ _ _ _ x.invariant c.loop-i-test.true (all_fit (goal.at.loop-i-preserved c).Start) (in_set c.args.set x.i w.if-set-i-eq1.true) (rw add-one at w.put_number-stop.ensures))
-          | else-set-i-eq1 w ↦ rw (w.text-is, w.stop-is) (nodes-put_skip spaced _ _ _ _ x.invariant c.loop-i-test.true (not_in_set c.args.set x.i w.if-set-i-eq1.false))
-          ]
+      | then-set-i-eq1 w ↦ rw (w.text-is, w.stop-is)
+          (nodes-put-step spaced _ _ _ _ x.invariant c.loop-i-test.true (all_fit (goal.at.loop-i-preserved c).Start) (in_set c.args.set x.i w.if-set-i-eq1.true) (rw add-one at w.put_number-stop.ensures))
+      | else-set-i-eq1 w ↦ rw (w.text-is, w.stop-is) (nodes-put_skip spaced _ _ _ _ x.invariant c.loop-i-test.true (not_in_set c.args.set x.i w.if-set-i-eq1.false))
+    ]
 
 pub shape_of-text : goal.shape_of-text
 shape_of-text c = nodes-put-length spaced _ _ _ _ (all_fit (goal.at.shape_of-text c).Start) c.loop-i.invariant

@@ -15,14 +15,11 @@ use Rattle.text.proofs.lines.put_shape.Goals.{After-put, After-put_number-l, Aft
 abbrev to_n : Sizes → List ℕ
 to_n z = letters "shape" ++ spaced z.n
 
-
 abbrev to_r : Sizes → List ℕ
 to_r z = to_n z ++ spaced z.r
 
-
 abbrev to_l : Sizes → List ℕ
 to_l z = to_r z ++ spaced z.l
-
 
 -- what fits
 all-fits : (c : Start) → Fits 0 (to_l c.args.z ++ letters "\n") c.args.text.now

@@ -24,17 +24,14 @@ meets : (answer : Unpacked) (stripe : List ℕ) {before later : List ℕ} {stop 
     → Put 0 (printed answer stripe) before later stop → PrintMeets answer stripe before (Length stop) later
 meets answer stripe taken put = (taken, put.stops ∙ zero-add (length (printed answer stripe)), put.is)
 
-
 of_refusal : {answer : Unpacked} (stripe : List ℕ) {q : ℕ} → answer ≡ unpacked.Refused q → printed answer stripe ≡ refused_line q
 unfolding printed
 of_refusal stripe e = ap (λ answer. printed answer stripe) e
-
 
 of_contents : {answer : Unpacked} (stripe : List ℕ) {contents : Contents} → answer ≡ unpacked.Accepted contents
     → printed answer stripe ≡ contents_text (contents_refusal contents) contents stripe
 unfolding printed
 of_contents stripe e = ap (λ answer. printed answer stripe) e
-
 
 -- past both tests
 taken : (c : Else-text-ne-LONGEST_TEXT) → print_refusal c.args.stripe.now c.args.text.now ≡ none

@@ -24,21 +24,17 @@ use Rattle.text.proofs.printing.put_contents.Goals.{After-put_lost-second, Else-
 abbrev two_lines : Contents → List ℕ
 two_lines contents = shape_line contents.shape ++ lost_line contents.shape contents.lost
 
-
 abbrev columns : Contents → List ℕ → List ℕ
 columns contents stripe = flat_map (column_line contents.shape stripe) (nodes_of contents.shape contents.lost)
-
 
 read_is : (contents : Contents) (stripe : List ℕ) → Taken contents
     → contents_text (contents_refusal contents) contents stripe ≡ two_lines contents ++ columns contents stripe
 unfolding read_text
 read_is contents stripe taken = ap (λ answer. contents_text answer contents stripe) (taken→none contents taken)
 
-
 refused-put : (contents : Contents) (stripe : List ℕ) {q stop : ℕ} {before later : List ℕ} → contents_refusal contents ≡ some q
     → Put 0 (refused_line q) before later stop → Put 0 (contents_text (contents_refusal contents) contents stripe) before later stop
 refused-put contents stripe e put = rw e put
-
 
 abbrev size : In-Accepted → Sizes
 size c = c.in-Accepted.z
@@ -73,7 +69,7 @@ taken c =
     }
 
 -- what fits
-refused-fits : (c : Start) →  (q : ℕ) → Fits 0 (refused_line q) c.args.text.now
+refused-fits : (c : Start) → (q : ℕ) → Fits 0 (refused_line q) c.args.text.now
 refused-fits c q = omega (arith, refused-most q, c.requires.text_len)
 
 all-fits : (c : Else-z-lost) → Fits 0 (two_lines c.args.contents ++ columns c.args.contents c.args.stripe.now) c.args.text.now

@@ -2,26 +2,29 @@
 use mathlib.Core.Path.{◌≡◌, refl, sym, ap, ◌∙◌}
 use mathlib.Core.List.{List, ◌++◌, append_assoc}
 use Prim.Native.Nat.{ℕ, ◌+◌, ◌-◌}
+use native.Mathlib.Omega.{arith}
 use lib.ListN.{length, take, drop}
 use borrow.Rule.Slice.PartMut.{put_mid}
-use Rattle.columns.proofs.Parts.{part_length, put-parts}
+use Rattle.columns.specs.Promise.{CopiedOver}
+use Rattle.columns.proofs.Parts.{part_length, put-parts, copied-over}
 use Rattle.yebarg.proofs.Lists.{laid-over-all}
 use Rattle.text.specs.Kernel.{Fits, Put}
 use Rattle.text.proofs.words.put.Goals as goal
 
-put-part : (at : ℕ) (words text part : List ℕ) → Fits at words text
-    → part ≡ take (length words) words ++ drop (length words) (take (at + length words - at) (drop at text))
+put-part : (at : ℕ) (words text part : List ℕ) → Fits at words text → CopiedOver words (take (at + length words - at) (drop at text)) part
     → Put at words text (put_mid at (at + length words - at) text part) (at + length words)
 put-part at words text part fits copied = record {
   stops = refl;
   is =
       put-parts at (length words) text fits part
       ∙ ap (λ (l : List ℕ). take at text ++ (l ++ drop (at + length words) text))
-      (copied ∙ laid-over-all words _ (part_length at (length words) text fits))
+      (copied-over (omega (arith, same)) copied ∙ laid-over-all words _ same)
       ∙ sym (append_assoc (take at text) words (drop (at + length words) text));
 }
-
+  where
+    same : length (take (at + length words - at) (drop at text)) ≡ length words
+    same = part_length at (length words) text fits
 
 pub returns : goal.returns
 returns c =
-    put-part c.args.at c.args.words.now c.args.text.now _ c.requires c.copy.ensures.bytes
+    put-part c.args.at c.args.words.now c.args.text.now _ c.requires c.copy.ensures

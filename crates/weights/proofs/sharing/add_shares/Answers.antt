@@ -59,11 +59,9 @@ power-next : (p t : ℕ) → mul (power p t) p ≡ power p (t + 1)
 unfolding power
 power-next p t = ap (power p) (sym (add-one t))
 
-
 pub loop-t-preserved : goal.loop-t-preserved
 loop-t-preserved c =
-    let x = c.loop-t in
-    (
+    let x = c.loop-t in (
       omega (arith, c.loop-t-test.true),
       c.times-q.ensures.value ∙ ap (λ q. mul q c.args.p) x.invariant.1 ∙ power-next c.args.p x.t,
       shared_step c.args.p (length c.args.weights.now) x.t c.args.weights.now c.args.sums.now x.sums (part-within (goal.at.loop-t-preserved c).In-loop-t) x.q c.add_multiple.new.to x.invariant.1 x.invariant.2

@@ -15,7 +15,6 @@ use Rattle.weights.proofs.weighing.coupled.Goals as goal
 picked : (o : Ordering) (u d own other : ℕ) → Compared o u d → weighed o own other ≡ weighed (compare u d) own other
 picked o u d own other h = ap (λ p. weighed p own other) (sym (compare_only u d o h))
 
-
 pub returns-then-u-d : goal.returns-then-u-d
 unfolding weighed
 returns-then-u-d c =

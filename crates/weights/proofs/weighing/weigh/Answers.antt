@@ -28,7 +28,6 @@ next-byte s w l group u a d is e f g =
     ∙ ap₂ (weighed (compare u d)) e f
     ∙ ap (λ q. weighed (compare u q) (get_or group (u * l + a) 0) (get_or group (q * l + (a - q * w + u * w)) 0)) is
 
-
 pub loop-a-init : goal.loop-a-init
 loop-a-init c = (written_start _ _, carried_start _ _)
 

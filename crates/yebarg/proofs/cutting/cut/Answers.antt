@@ -28,7 +28,6 @@ refused : {sh : Shape} {helper failed : ℕ} {col buffer : List ℕ} {q : ℕ} �
     → CutMeets sh helper failed col buffer (Refused q) buffer
 refused {sh} {helper} {failed} {col} {buffer} {q} e = record { answered = sym e; buffer_later = refused_keeps (fraction sh failed col) buffer q e }
 
-
 sizes : (c : In-Accepted) → SizesAre c.args.shape c.in-Accepted.z
 sizes c = measured-sizes c.args.shape c.measure.ensures c.in-Accepted.is
 
@@ -154,9 +153,9 @@ take_rows-requires c =
         mod-lt _ (size-some-z (goal.at.take_rows-requires c).In-Accepted),
       );
       column_len_bound = (
-          omega (arith, col-is, b.l-most),
-          ap₂ (λ (x y : ℕ). x * y) buffer-is (sizes (goal.at.take_rows-requires c).In-Accepted).s-is ∙ fraction-times c.args.shape b ∙ sym col-is,
-        );
+        omega (arith, col-is, b.l-most),
+        ap₂ (λ (x y : ℕ). x * y) buffer-is (sizes (goal.at.take_rows-requires c).In-Accepted).s-is ∙ fraction-times c.args.shape b ∙ sym col-is,
+      );
       w_len = ap₂ (λ (x y : ℕ). x % y) buffer-is w-is ∙ fraction-worth c.args.shape b c.args.failed (failed-first (goal.at.take_rows-requires c).Else-z-failed) (failed-last (goal.at.take_rows-requires c).Else-z-failed);
     }
 

@@ -16,7 +16,6 @@ record Fitting (s w u n j : ℕ) : Type 0 where
   row : j / w * (w * s) + u * w + j % w < n * s
   rows : n * s ≤ 256
 
-
 fitting : (s w u n j : ℕ) → 0 < w → u < s → n % w ≡ 0 → n * s ≤ 256 → j < n → Fitting s w u n j
 fitting s w u n j some small exact few h = record {
   period = omega (arith, mul-le-mul_right {m = 1} {n = n / w} (w * s) (omega (arith, below)), ap (λ x. x * s) whole);
@@ -29,7 +28,6 @@ fitting s w u n j some small exact few h = record {
 
     below : j / w < n / w
     below = (div-lt_iff_lt-mul {k = w} {x = j} {y = n / w} some).1 (omega (arith, h, whole))
-
 
 in_place : (c : In-loop-j) → Fitting c.args.s c.args.w c.args.u (length c.args.fraction.now) c.loop-j.j
 in_place c =

@@ -1,6 +1,6 @@
 -- `yebarg::lay` meets its contract: each test finds the refusal that it gives, and past all of them the record stands over the front of the stripe and
 -- zeros after it up to the parity columns.
-use mathlib.Core.Path.{◌≡◌, sym, ap, ap₂, ◌∙◌}
+use mathlib.Core.Path.{◌≡◌, refl, sym, ap, ap₂, ◌∙◌}
 use mathlib.Core.List.{List, ◌++◌}
 use mathlib.Core.Option.{some}
 use Prim.Native.Nat.{ℕ, ◌≤◌, ◌-◌, ◌*◌}
@@ -14,6 +14,7 @@ use Rattle.rules.specs.Promise.{SizesAre}
 use Rattle.rules.proofs.Accepted.{bounds}
 use Rattle.rules.proofs.Measures.{measured-sizes, measured-refused}
 use Rattle.columns.specs.Promise.{Cleared}
+use Rattle.columns.proofs.Parts.{copied-over}
 use Rattle.yebarg.specs.declared.answers.Outcome.TheVariants.{Refused}
 use Rattle.yebarg.specs.Refusal.{lay_refusal}
 use Rattle.yebarg.specs.Promise.{LayMeets}
@@ -21,11 +22,10 @@ use Rattle.rules.proofs.Lengths.{stripe-is, data_is, stripe-most, data_most}
 use Rattle.yebarg.proofs.Lists.{cleared_zeros, laid-over}
 use Rattle.yebarg.proofs.Refusals.{lay-shape, lay-long, lay-length, lay-accepted, refused_keeps, accepted_writes}
 use Rattle.yebarg.proofs.records.lay.Goals as goal
-use Rattle.yebarg.proofs.records.lay.Goals.{After-copy-at, In-Accepted}
+use Rattle.yebarg.proofs.records.lay.Goals.{After-copy, In-Accepted}
 
 refused : {sh : Shape} {rec stripe : List ℕ} {q : ℕ} → lay_refusal sh rec stripe ≡ some q → LayMeets sh rec stripe (Refused q) stripe
 refused {sh} {rec} {stripe} {q} e = record { answered = sym e; stripe-later = refused_keeps (laid sh rec stripe) stripe q e }
-
 
 -- how the code comes to what is wanted: the record copied, then the part after it cleared
 laid_in_parts : (sh : Shape) (rec stripe : List ℕ) {copied part : List ℕ} {at end : ℕ} → at ≡ length rec → end ≡ data_length sh → length rec ≤ data_length sh
@@ -45,7 +45,6 @@ laid_in_parts sh rec stripe {copied} {part} {at} {end} at-is end_is h copied_is 
     zeros =
         cleared_zeros cleared
         ∙ ap (λ k. replicate k 0) (length-take-le (end - at) (drop at copied) (omega (arith, length-drop at copied, end_is, fits)))
-
 
 sizes : (c : In-Accepted) → SizesAre c.args.shape c.in-Accepted.z
 sizes c = measured-sizes c.args.shape c.measure.ensures c.in-Accepted.is
@@ -79,18 +78,19 @@ returns-then-stripe-z c =
     refused
     (lay-length _ _ _ (sizes (goal.at.returns-then-stripe-z c).In-Accepted).taken (omega (arith, data-end (goal.at.returns-then-stripe-z c).In-Accepted, c.if-end-rec.false)) (λ e. c.if-stripe-z.true (e ∙ sym (stripe-end (goal.at.returns-then-stripe-z c).In-Accepted))))
 
-pub copy-at-requires : goal.copy-at-requires
-copy-at-requires c =
-    omega (arith, data-end (goal.at.copy-at-requires c).In-Accepted, stripe-end (goal.at.copy-at-requires c).In-Accepted, data_most c.args.shape, c.if-stripe-z.false, c.if-end-rec.false)
+-- the record ends within the stripe
+record-within : (c : After-copy) → length c.args.rec.now ≤ length c.args.stripe.now
+record-within c =
+    omega (arith, data-end (goal.at.After-copy c).In-Accepted, stripe-end (goal.at.After-copy c).In-Accepted, data_most c.args.shape, c.if-stripe-z.false, c.if-end-rec.false)
 
 -- the data columns end within what is copied
-data-within : (c : After-copy-at) → data_length c.args.shape ≤ length c.copy-at.new.to
+data-within : (c : After-copy) → data_length c.args.shape ≤ length c.copy.new.to
 data-within c =
-    omega (arith, stripe-end (goal.at.After-copy-at c).In-Accepted, data_most c.args.shape, c.copy-at.auto.to, c.if-stripe-z.false)
+    omega (arith, stripe-end (goal.at.After-copy c).In-Accepted, data_most c.args.shape, c.copy.auto.to, c.if-stripe-z.false)
 
 pub slice_bounds-clear-end : goal.slice_bounds-clear-end
 slice_bounds-clear-end c =
-    omega (arith, data-end (goal.at.slice_bounds-clear-end c).In-Accepted, data-within (goal.at.slice_bounds-clear-end c).After-copy-at, c.copy-at.ensures.len, c.if-end-rec.false)
+    omega (arith, data-end (goal.at.slice_bounds-clear-end c).In-Accepted, data-within (goal.at.slice_bounds-clear-end c).After-copy, c.if-end-rec.false)
 
 pub returns : goal.returns
 returns c =
@@ -101,10 +101,10 @@ returns c =
       stripe-later =
           accepted_writes c.args.stripe.now e
           (laid_in_parts c.args.shape c.args.rec.now c.args.stripe.now
-          c.copy-at.ensures.len
+          refl
           (data-end (goal.at.returns c).In-Accepted)
           short
-          c.copy-at.ensures.bytes
-          (data-within (goal.at.returns c).After-copy-at)
+          (copied-over (record-within (goal.at.returns c).After-copy) c.copy.ensures)
+          (data-within (goal.at.returns c).After-copy)
           c.clear.ensures);
     }

@@ -18,6 +18,7 @@ use Rattle.yebarg.specs.declared.answers.Outcome.TheVariants.{Refused}
 use Rattle.yebarg.specs.Refusal.{read_back_refusal}
 use Rattle.yebarg.specs.Promise.{ReadBackMeets}
 use Rattle.rules.proofs.Lengths.{stripe-is, data_is, stripe-most, data_most}
+use Rattle.columns.proofs.Parts.{copied-over}
 use Rattle.yebarg.proofs.Lists.{laid-over-all}
 use Rattle.yebarg.proofs.Refusals.{read-back-shape, read-back-stripe, read-back_buffer, read-back-accepted, refused_keeps, accepted_writes}
 use Rattle.yebarg.proofs.records.read_back.Goals as goal
@@ -25,7 +26,6 @@ use Rattle.yebarg.proofs.records.read_back.Goals.{Else-buffer-size, In-Accepted}
 
 refused : {sh : Shape} {stripe buffer : List ℕ} {q : ℕ} → read_back_refusal sh stripe buffer ≡ some q → ReadBackMeets sh stripe buffer (Refused q) buffer
 refused {sh} {stripe} {buffer} {q} e = record { answered = sym e; buffer_later = refused_keeps (read_back sh stripe) buffer q e }
-
 
 sizes : (c : In-Accepted) → SizesAre c.args.shape c.in-Accepted.z
 sizes c = measured-sizes c.args.shape c.measure.ensures c.in-Accepted.is
@@ -73,13 +73,11 @@ front_length c =
 pub slice_bounds-copy-end : goal.slice_bounds-copy-end
 slice_bounds-copy-end c = sym (front_length (goal.at.slice_bounds-copy-end c).Else-buffer-size)
 
-pub copy-requires : goal.copy-requires
-copy-requires c = omega (arith, front_length (goal.at.copy-requires c).Else-buffer-size, c.if-buffer-size.false)
-
 pub returns : goal.returns
 unfolding read_back
 returns c =
     let end = c.in-Accepted.z.k * c.in-Accepted.z.l in
+    let same : length c.args.buffer.now ≡ length (take end c.args.stripe.now) = c.if-buffer-size.false ∙ sym (front_length (goal.at.returns c).Else-buffer-size) in
     let e =
     read-back-accepted c.args.shape c.args.stripe.now c.args.buffer.now (sizes (goal.at.returns c).In-Accepted).taken
     (c.if-stripe-z.false ∙ stripe-end (goal.at.returns c).In-Accepted)
@@ -88,7 +86,7 @@ returns c =
       answered = sym e;
       buffer_later =
           accepted_writes c.args.buffer.now e
-          (c.copy.ensures.bytes
-          ∙ laid-over-all (take end c.args.stripe.now) c.args.buffer.now (c.if-buffer-size.false ∙ sym (front_length (goal.at.returns c).Else-buffer-size))
+          (copied-over (omega (arith, same)) c.copy.ensures
+          ∙ laid-over-all (take end c.args.stripe.now) c.args.buffer.now same
           ∙ ap (λ n. take n c.args.stripe.now) (data-end (goal.at.returns c).In-Accepted));
     }
