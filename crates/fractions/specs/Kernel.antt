@@ -5,7 +5,7 @@
 --   lone h given u a     == what place u has at row a in a group of which only place h has a column that isn't zeros, `given`
 --   weight_of s w columns u a == `weight_at` of a group by what each place has at each row
 --   factor_of h u        == `factor`: what the weight of the node at place h has of its own symbol at a row with the digit u, which isn't h
---   left_out g v         == `left_out_lem`: the number from 1 of group g's digit among the others, where that of group v is left out; g and v count from 0
+--   left_out g v         == `left_out`: the number from 1 of group g's digit among the others, where that of group v is left out; g and v count from 0
 use Rattle.std.specs.Prelude.{◌≡◌, cond, List, eqb, ltb, length, get_or}
 use Prim.Native.Nat.{ℕ, suc, ◌+◌, ◌-◌, ◌*◌, ◌/◌, ◌%◌, ◌<◌, compare}
 use Rattle.field.specs.Number.{add, mul, power}

@@ -35,7 +35,7 @@ use Rattle.rules.proofs.Checks.{both}
 use Rattle.rules.proofs.Accepted.{Bounds, nodes-least}
 use Rattle.rules.proofs.Risings.{listed→rising, length-rising, get_or_rising}
 use Rattle.rules.proofs.Pieces.{flat_same, flat_length, flat_piece}
-use Rattle.rules.proofs.RowsRead.{get_d_map, fraction-length}
+use Rattle.rules.proofs.RowsRead.{get_or-map, fraction-length}
 use Rattle.rules.proofs.House.{code, stripe, house_lawful}
 use Rattle.rules.proofs.Ties.{symbol-phantom, whole_tie, is-read_tie, arrived-other, meets-read_tie}
 use Rattle.rules.proofs.Layouts.{symbol-column}
@@ -215,7 +215,7 @@ fraction-byte : (sh : Shape) (f : ℕ) (col : List ℕ) (a : ℕ) → a < rows s
     → get_or (fraction sh f col) (length (rising a (is_read sh f))) 0 ≡ get_or col a 0
 unfolding fraction rows_read
 fraction-byte sh f col a l e =
-    get_d_map (λ x. get_or col x 0) (rising (rows sh) (is_read sh f)) (length (rising a (is_read sh f))) 0 0
+    get_or-map (λ x. get_or col x 0) (rising (rows sh) (is_read sh f)) (length (rising a (is_read sh f))) 0 0
     (rw (length-rising a (is_read sh f), length-rising (rows sh) (is_read sh f)) (count_passed (rows sh) a (is_read sh f) l e))
     ∙ ap (λ x. get_or col x 0) (ap (λ j. get_or (rising (rows sh) (is_read sh f)) j 0) (length-rising a (is_read sh f)) ∙ get_or_rising (rows sh) (is_read sh f) a l e)
 

@@ -118,10 +118,10 @@ abbrev blocks : Shape → ℕ → ℕ
 blocks sh f = group_size sh ^ (groups sh - group sh f)
 
 -- neither default is read
-pub get_d_map : (f : ℕ → ℕ) (l : List ℕ) (j d e : ℕ) → j < length l → get_or (map f l) j d ≡ f (get_or l j e)
-get_d_map f [] j d e h = absurd (not-suc-le-zero h)
-get_d_map f (x ∷ l) zero d e h = refl
-get_d_map f (x ∷ l) (suc j) d e h = get_d_map f l j d e (le_of_suc-le-suc h)
+pub get_or-map : (f : ℕ → ℕ) (l : List ℕ) (j d e : ℕ) → j < length l → get_or (map f l) j d ≡ f (get_or l j e)
+get_or-map f [] j d e h = absurd (not-suc-le-zero h)
+get_or-map f (x ∷ l) zero d e h = refl
+get_or-map f (x ∷ l) (suc j) d e h = get_or-map f l j d e (le_of_suc-le-suc h)
 
 pub worth-some : (sh : Shape) → Bounds sh → (v : ℕ) → 0 < worth sh v
 unfolding worth
@@ -200,7 +200,7 @@ module _ (sh : Shape) (b : Bounds sh) (f : ℕ) (first : 1 ≤ f) (last : f ≤ 
       → get_or (fraction sh f col) j 0
       ≡ get_or col (j / worth sh (group sh f) * (worth sh (group sh f) * group_size sh) + place sh f * worth sh (group sh f) + j % worth sh (group sh f)) 0
   unfolding fraction
-  fraction-at col j h = get_d_map (λ a. get_or col a 0) (rows_read sh f) j 0 0 (omega (arith, rows-read-length)) ∙ ap (λ a. get_or col a 0) (rows-read-at j h)
+  fraction-at col j h = get_or-map (λ a. get_or col a 0) (rows_read sh f) j 0 0 (omega (arith, rows-read-length)) ∙ ap (λ a. get_or col a 0) (rows-read-at j h)
 
 -- by the group of node 1, as of any other
 pub fraction-times : (sh : Shape) → Bounds sh → fraction_length sh * group_size sh ≡ rows sh

@@ -26,7 +26,7 @@ use Rattle.rules.specs.Shape.{rows, phantom}
 use Rattle.rules.specs.Stripe.{IsBytes, stripe_length, column_start, column, symbol, plus_bytes, times_bytes}
 use Rattle.rules.proofs.Accepted.{Bounds, nodes-least}
 use Rattle.rules.proofs.Risings.{length-rising, get_or_rising}
-use Rattle.rules.proofs.RowsRead.{get_d_map}
+use Rattle.rules.proofs.RowsRead.{get_or-map}
 use Rattle.rules.proofs.House.{code, stripe}
 use Rattle.rules.proofs.Ties.{symbol-phantom}
 use Rattle.rules.proofs.Layouts.{symbol-byte, column-length, symbol-column}
@@ -41,7 +41,7 @@ length-tabulated n f = length-map (up_to n) f ∙ length-rising n (λ a. true) �
 pub get_or_tabulated : (n : ℕ) (f : ℕ → ℕ) (k : ℕ) → k < n → get_or (tabulated n f) k 0 ≡ f k
 unfolding tabulated
 get_or_tabulated n f k h =
-    get_d_map f (up_to n) k 0 0 (omega (arith, length-rising n (λ a. true), count-all n (λ a. true) (λ i l. refl)))
+    get_or-map f (up_to n) k 0 0 (omega (arith, length-rising n (λ a. true), count-all n (λ a. true) (λ i l. refl)))
     ∙ ap f (ap (λ j. get_or (up_to n) j 0) (sym (count-all k (λ a. true) (λ i l. refl))) ∙ get_or_rising n (λ a. true) k h refl)
 
 some-row : (k n l : ℕ) → k < n * l → 0 < l

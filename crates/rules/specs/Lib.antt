@@ -10,7 +10,7 @@
 --   Paper    == the equations of Ye and Barg as they print them
 --   Bench    == the bench stripes of document 01 that are proved
 --   Promise  == what each public function of this crate promises
--- Words of the kit: leb, ltb, eqb == at most, below, equal, as tests; cond b x y == x where b holds, else y; getD list j 0 == entry j, from 0, or 0 past the
+-- Words of the kit: leb, ltb, eqb == at most, below, equal, as tests; cond b x y == x where b holds, else y; get_or list j 0 == entry j, from 0, or 0 past the
 -- end; take, drop, replicate, ++ == as usual of lists; compare x y == lt, eq or gt; x - y == 0 where y is greater; x / y and x % y == quotient and remainder.
 pub mod Point
 pub mod Shape

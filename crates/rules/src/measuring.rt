@@ -19,6 +19,7 @@ fn raised(s: usize, m: usize) -> usize
 }
 
 // The sizes of a shape; refused with number 1 where it isn't accepted.
+#[tactic(auto, unfolding(crate::specs::Refusal::shape_refusal, crate::specs::Shape::accepted, crate::specs::Shape::rows, crate::specs::Shape::groups, crate::specs::Shape::group_size))]
 pub fn measure(shape: Shape) -> Measured
     ensures { MeasuredIs shape result }
 {

@@ -1,4 +1,4 @@
--- The numbers of an array of bytes by value are below 256, as the check tells of a parameter (`c.good`).
+-- The numbers of an array of bytes by value are below 256, as the check tells of a parameter (`c.well_formed`).
 use mathlib.Core.List.{List, [], ◌∷◌}
 use Prim.Native.Nat.{ℕ, zero, suc, ◌<◌}
 use native.Mathlib.Omega.{arith}

@@ -3,7 +3,7 @@ use mathlib.Core.Path.{◌≡◌, sym, ap, ◌∙◌}
 use mathlib.Core.Option.{none}
 use mathlib.Core.Bool.{Bool}
 use mathlib.Core.List.{List}
-use Prim.Native.Nat.{ℕ, ◌-◌, ◌*◌, ◌/◌, ◌^◌, ◌<◌, ◌≤◌}
+use Prim.Native.Nat.{ℕ, ◌-◌, ◌*◌, ◌/◌, ◌^◌, ◌≤◌}
 use native.Mathlib.Nat.{mul-le-mul}
 use native.Mathlib.Omega.{arith}
 use lib.Count.{ones, ones-le}
@@ -12,6 +12,7 @@ use Rattle.rules.specs.declared.shapes.Sizes.{Sizes}
 use Rattle.rules.specs.Stripe.{stripe_length}
 use Rattle.rules.specs.Lost.{lost_count, is_lost}
 use Rattle.rules.specs.Promise.{SizesAre}
+use Rattle.rules.proofs.Accepted.{bounds}
 use Rattle.rules.proofs.Measures.{Small, small, measured-sizes, measured-refused}
 use Rattle.rules.proofs.Lengths.{stripe-is}
 use Rattle.corrections.specs.Correction.{chosen}
@@ -43,10 +44,6 @@ lost-of c = c.args.lost
 -- the tests, as the rules have them
 bits-end : (c : In-Accepted) → lost-of c / 2 ^ (size c).n ≡ 0 → lost-of c / 2 ^ c.args.shape.n ≡ 0
 bits-end c e = ap (λ n. lost-of c / 2 ^ n) (sym (sizes c).n-is) ∙ e
-
-more-than : (c : In-Accepted) → (size c).r < ones (lost-of c) → c.args.shape.r < lost_count (lost-of c)
-unfolding lost_count
-more-than c h = omega (arith, h, (sizes c).r-is)
 
 few-lost : (c : In-Accepted) → ones (lost-of c) ≤ (size c).r → ones (lost-of c) ≤ c.args.shape.r
 few-lost c h = omega (arith, h, (sizes c).r-is)
@@ -81,8 +78,11 @@ pub overflow_cast-count : goal.overflow_cast-count
 overflow_cast-count c = record { fits = omega (arith, ones-le c.args.shape.n c.args.lost (lost-below c.args.shape c.args.lost (no_bit_above c.args.shape c.args.lost (bits-end (goal.at.overflow_cast-count c).In-Accepted c.if-lost-z-ne0.false))), (sizes (goal.at.overflow_cast-count c).In-Accepted).n-is, (few (goal.at.overflow_cast-count c).In-Accepted).n-most) }
 
 pub returns-then-z-count : goal.returns-then-z-count
+unfolding lost_count
 returns-then-z-count c =
-    fill-refused _ _ _ (fill-many _ _ _ (sizes (goal.at.returns-then-z-count c).In-Accepted).taken (c.if-stripe-z.false ∙ stripe-end (goal.at.returns-then-z-count c).In-Accepted) (bits-end (goal.at.returns-then-z-count c).In-Accepted c.if-lost-z-ne0.false) (omega (arith, more-than (goal.at.returns-then-z-count c).In-Accepted c.if-z-count.true)))
+    let z = sizes (goal.at.returns-then-z-count c).In-Accepted in
+    fill-refused _ _ _ (fill-many _ _ _ z.taken (c.if-stripe-z.false ∙ stripe-end (goal.at.returns-then-z-count c).In-Accepted) (bits-end (goal.at.returns-then-z-count c).In-Accepted c.if-lost-z-ne0.false)
+    (omega (arith, c.if-z-count.true, z.r-is, z.n-is, (bounds c.args.shape z.taken).n-least)))
 
 pub fill_one-requires : goal.fill_one-requires
 fill_one-requires c =

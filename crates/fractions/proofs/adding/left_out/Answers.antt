@@ -1,4 +1,4 @@
--- `fractions::left_out_lem` meets its contract: each test finds its case.
+-- `fractions::left_out` meets its contract: each test finds its case.
 use borrow.Author.Tests.{lt-ltb, le-ltb}
 use Rattle.fractions.specs.Kernel.{left_out}
 use Rattle.fractions.proofs.adding.left_out.Goals as goal

@@ -47,7 +47,7 @@ few c = small _ (size c) (sizes c)
 
 header : (c : In-Accepted) → HeaderTaken c.args.pack.now
 header c =
-    record { long = c.if-pack-lt-HEADER.false; zero-byte = c.if-zero-ne0.false; taken = (sizes c).taken }
+    record { long = c.if-pack-lt-HEADER.false; zero-byte = omega arith; taken = (sizes c).taken }
 
 -- past the checks of how many entries there are
 abbrev pack-of : In-Accepted → List ℕ

@@ -15,17 +15,8 @@ first-none {r} {l} {sums} {a} first h = subst (FirstT r l sums a) (le_antisymm f
 pub loop-a-init : goal.loop-a-init
 loop-a-init c = below_none _
 
-pub returns-then-t-r : goal.returns-then-t-r
-returns-then-t-r c =
-    record {
-      row_below = c.loop-a-test.true;
-      t-below = c.if-t-r.true;
-      first = c.lowest_t-t.ensures;
-      lower-rows = c.loop-a.invariant;
-    }
-
 pub loop-a-preserved : goal.loop-a-preserved
-loop-a-preserved c = below_more _ _ c.loop-a.invariant (first-none c.lowest_t-t.ensures c.if-t-r.false)
+loop-a-preserved c = below_more _ _ c.loop-a.invariant (first-none c.lowest_t-t.ensures (omega arith))
 
 pub returns : goal.returns
 returns c = λ b h. c.loop-a.invariant b (omega arith)

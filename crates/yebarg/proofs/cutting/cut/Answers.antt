@@ -114,7 +114,7 @@ returns-then-helper-failed c =
     (buffer-right (goal.at.returns-then-helper-failed c).Else-fraction-z)
     (helper-right (goal.at.returns-then-helper-failed c).Else-z-helper)
     (failed-right (goal.at.returns-then-helper-failed c).Else-z-failed)
-    c.if-helper-failed.true)
+    (omega arith))
 
 pub nonzero_div-v : goal.nonzero_div-v
 nonzero_div-v c = size-some-z (goal.at.nonzero_div-v c).In-Accepted
