@@ -1,4 +1,4 @@
--- What each function promises, for every input. What lies past the end of a list counts as 0.
+-- What each function promises, for every input. What lies past the end of a list counts as 0, but for `copy`.
 --   ByteIs list j x == `byte_at`: x is the byte at index j
 --   LesserIs a b x  == `lesser`: x is the lesser of a and b
 --   Multiplied c from before later == `add_multiple`: each byte of `before` plus c times the byte of `from`

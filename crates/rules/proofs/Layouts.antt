@@ -133,6 +133,12 @@ symbol-byte sh stripe i a h = rw (le-ltb sh.n i h)
 pub column-room : (sh : Shape) (i : ℕ) → 1 ≤ i → i ≤ sh.n → (i - 1) * rows sh + rows sh ≤ sh.n * rows sh
 column-room sh i h k = rw (← suc-mul (i - 1) (rows sh)) (mul-le-mul_right (rows sh) (omega arith))
 
+-- the part of a stripe that is lent as a column, its end given
+pub column-part : (sh : Shape) (stripe : List ℕ) (i : ℕ)
+    → take (i * rows sh + rows sh - i * rows sh) (drop (i * rows sh) stripe) ≡ column sh stripe (suc i)
+unfolding column column_start
+column-part sh stripe i = ap₂ (λ (k j : ℕ). take k (drop (j * rows sh) stripe)) (add-sub_cancel_left (i * rows sh) (rows sh)) (omega arith)
+
 pub column-length : (sh : Shape) (stripe : List ℕ) (i : ℕ) → length stripe ≡ stripe_length sh → 1 ≤ i → i ≤ sh.n → length (column sh stripe i) ≡ rows sh
 unfolding column column_start stripe_length
 column-length sh stripe i e h k = length-take-le (rows sh) (drop ((i - 1) * rows sh) stripe) (rw (length-drop, e) (omega (arith, column-room sh i h k)))
@@ -142,12 +148,6 @@ pub symbol-column : (sh : Shape) (stripe : List ℕ) (i a : ℕ) → i ≤ sh.n 
 unfolding column
 symbol-column sh stripe i a h l =
     symbol-byte sh stripe i a h ∙ sym (get_or-take (rows sh) (drop (column_start sh i) stripe) a 0 l ∙ get_or-drop (column_start sh i) stripe a 0)
-
--- the same of a part that is lent, whose end is given
-pub column-part : (sh : Shape) (stripe : List ℕ) (i : ℕ)
-    → take (i * rows sh + rows sh - i * rows sh) (drop (i * rows sh) stripe) ≡ column sh stripe (suc i)
-unfolding column column_start
-column-part sh stripe i = ap₂ (λ (k j : ℕ). take k (drop (j * rows sh) stripe)) (add-sub_cancel_left (i * rows sh) (rows sh)) (omega arith)
 
 -- "Data columns are 1 to k"; "the record read back from a stripe is its first k × l bytes"
 pub data_column : (sh : Shape) (stripe : List ℕ) (i a : ℕ) → 1 ≤ i → i ≤ data_nodes sh → a < rows sh

@@ -125,7 +125,7 @@ get_or-map f (x ∷ l) (suc j) d e h = get_or-map f l j d e (le_of_suc-le-suc h)
 
 pub worth-some : (sh : Shape) → Bounds sh → (v : ℕ) → 0 < worth sh v
 unfolding worth
-worth-some sh b v = one-le-pow (v - 1) (group_size sh) (size-some sh b)
+worth-some sh b v = one-le-pow _ (group_size sh) (size-some sh b)
 
 pub worth-most : (sh : Shape) → Bounds sh → (v : ℕ) → v ≤ groups sh → worth sh v ≤ rows sh
 unfolding worth rows
