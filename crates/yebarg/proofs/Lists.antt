@@ -1,5 +1,5 @@
 -- Lists that are written in part or whole. In order: what `clear` leaves; a list laid over the front of another, and zeros after it; a list laid over
--- another of its length.
+-- another of its length; what `copy` leaves of a part of that length.
 use mathlib.Core.Path.{◌≡◌, sym, ap, ap₂, ◌∙◌}
 use mathlib.Core.List.{List, ◌++◌, append-nil, append_assoc}
 use Prim.Native.Nat.{ℕ, ◌-◌, ◌≤◌}
@@ -8,8 +8,8 @@ use native.Mathlib.Omega.{arith}
 use lib.ListN.{length, take, drop, replicate, length-replicate}
 use lib.Seq.{ext_get_or, take-length, drop-length, take-append_seam, drop-append_seam, drop-drop}
 use borrow.Rule.Slice.PartMut.{put_mid}
-use Rattle.columns.specs.Promise.{Cleared}
-use Rattle.columns.proofs.Parts.{zeros-at}
+use Rattle.columns.specs.Promise.{Cleared, CopiedOver}
+use Rattle.columns.proofs.Parts.{zeros-at, copied-over}
 
 pub cleared_zeros : {before later : List ℕ} → Cleared before later → later ≡ replicate (length before) 0
 cleared_zeros {before} {later} p =
@@ -31,3 +31,6 @@ laid-over rec stripe end h =
 pub laid-over-all : (from to : List ℕ) → length to ≡ length from → take (length from) from ++ drop (length from) to ≡ from
 laid-over-all from to e =
     ap₂ (λ (x y : List ℕ). x ++ y) (take-length from) (ap (λ n. drop n to) (sym e) ∙ drop-length to) ∙ append-nil from
+
+pub copied-whole : {from before later : List ℕ} → length before ≡ length from → CopiedOver from before later → later ≡ from
+copied-whole {from} {before} same copied = copied-over (omega (arith, same)) copied ∙ laid-over-all from before same

@@ -1,12 +1,12 @@
 -- `levels::place_columns` meets its contract: the first j columns of `found` are where their nodes have theirs, all others as they were. No node is listed
-use mathlib.Core.Path.{◌≡◌, ◌∙◌, subst}
+use mathlib.Core.Path.{◌≡◌, subst}
 use Prim.Native.Nat.{ℕ, ◌≤◌, ◌+◌, ◌-◌, ◌*◌}
 use native.Mathlib.Nat.{le_antisymm}
 use native.Mathlib.Omega.{arith}
 use lib.ListN.{length, get_or, take, drop}
 use Rattle.columns.proofs.Kernels.{column-within, product_small}
-use Rattle.columns.proofs.Parts.{copied-over, parts_as_long}
-use Rattle.yebarg.proofs.Lists.{laid-over-all}
+use Rattle.columns.proofs.Parts.{parts_as_long}
+use Rattle.yebarg.proofs.Lists.{copied-whole}
 use Rattle.levels.specs.Kernel.{Placed}
 use Rattle.levels.proofs.Placements.{placed_start, placed-step}
 use Rattle.levels.proofs.placing.place_columns.Goals as goal
@@ -79,7 +79,7 @@ loop-j-preserved c =
     let same = both (goal.at.loop-j-preserved c).In-loop-j in (
       omega (arith, c.loop-j-test.true),
       placed-step c.args.nodes c.args.l x.j c.args.found.now c.args.to.now x.to x.invariant.1 c.requires.once c.loop-j-test.true
-          (found_within (goal.at.loop-j-preserved c).In-loop-j) (to-within (goal.at.loop-j-preserved c).In-loop-j) _ (copied-over (omega (arith, same)) c.copy.ensures ∙ laid-over-all _ _ same),
+          (found_within (goal.at.loop-j-preserved c).In-loop-j) (to-within (goal.at.loop-j-preserved c).In-loop-j) _ (copied-whole same c.copy.ensures),
     )
 
 pub shape_of-to : goal.shape_of-to

@@ -8,8 +8,8 @@ use native.Mathlib.Omega.{arith}
 use lib.ListN.{length, get_or, take, drop}
 use borrow.Rule.Slice.PartMut.{put_mid}
 use Rattle.columns.proofs.Kernels.{column-within}
-use Rattle.columns.proofs.Parts.{copied-over, part_length, part-byte, parts_as_long}
-use Rattle.yebarg.proofs.Lists.{laid-over-all}
+use Rattle.columns.proofs.Parts.{part_length, part-byte, parts_as_long}
+use Rattle.yebarg.proofs.Lists.{copied-whole}
 use Rattle.corrections.specs.Correction.{chosen}
 use Rattle.columns.proofs.Columns.{ColumnsTo, columns_start, columns-put, columns_skip, columns-within}
 use Rattle.lost.specs.Promise.{Copyable}
@@ -114,7 +114,7 @@ loop-i-preserved c =
       elim c.if-flags-i.branch [
         | then-flags-i w ↦ subst (ColumnsTo (copied_at c.args.flags c.args.l c.args.from.now c.args.to.now) c.args.l (x.i + 1) c.args.to.now) (sym w.to-is)
             (put_step c.args.flags c.args.l x.i c.args.from.now c.args.to.now x.to _ from-ends to-ends w.if-flags-i.true
-            (copied-over (omega (arith, same)) w.copy.ensures ∙ laid-over-all _ _ same) x.invariant.1)
+            (copied-whole same w.copy.ensures) x.invariant.1)
         | else-flags-i w ↦ subst (ColumnsTo (copied_at c.args.flags c.args.l c.args.from.now c.args.to.now) c.args.l (x.i + 1) c.args.to.now) (sym w.to-is)
             (skip_step c.args.flags c.args.l x.i c.args.from.now c.args.to.now x.to w.if-flags-i.false x.invariant.1)
       ],

@@ -2,12 +2,11 @@
 use mathlib.Core.Path.{◌≡◌, refl, sym, ap, ◌∙◌}
 use mathlib.Core.List.{List, ◌++◌, append_assoc}
 use Prim.Native.Nat.{ℕ, ◌+◌, ◌-◌}
-use native.Mathlib.Omega.{arith}
 use lib.ListN.{length, take, drop}
 use borrow.Rule.Slice.PartMut.{put_mid}
 use Rattle.columns.specs.Promise.{CopiedOver}
-use Rattle.columns.proofs.Parts.{part_length, put-parts, copied-over}
-use Rattle.yebarg.proofs.Lists.{laid-over-all}
+use Rattle.columns.proofs.Parts.{part_length, put-parts}
+use Rattle.yebarg.proofs.Lists.{copied-whole}
 use Rattle.text.specs.Kernel.{Fits, Put}
 use Rattle.text.proofs.words.put.Goals as goal
 
@@ -18,7 +17,7 @@ put-part at words text part fits copied = record {
   is =
       put-parts at (length words) text fits part
       ∙ ap (λ (l : List ℕ). take at text ++ (l ++ drop (at + length words) text))
-      (copied-over (omega (arith, same)) copied ∙ laid-over-all words _ same)
+      (copied-whole same copied)
       ∙ sym (append_assoc (take at text) words (drop (at + length words) text));
 }
   where

@@ -18,8 +18,7 @@ use Rattle.yebarg.specs.declared.answers.Outcome.TheVariants.{Refused}
 use Rattle.yebarg.specs.Refusal.{read_back_refusal}
 use Rattle.yebarg.specs.Promise.{ReadBackMeets}
 use Rattle.rules.proofs.Lengths.{stripe-is, data_is, stripe-most, data_most}
-use Rattle.columns.proofs.Parts.{copied-over}
-use Rattle.yebarg.proofs.Lists.{laid-over-all}
+use Rattle.yebarg.proofs.Lists.{copied-whole}
 use Rattle.yebarg.proofs.Refusals.{read-back-shape, read-back-stripe, read-back_buffer, read-back-accepted, refused_keeps, accepted_writes}
 use Rattle.yebarg.proofs.records.read_back.Goals as goal
 use Rattle.yebarg.proofs.records.read_back.Goals.{Else-buffer-size, In-Accepted}
@@ -86,7 +85,6 @@ returns c =
       answered = sym e;
       buffer_later =
           accepted_writes c.args.buffer.now e
-          (copied-over (omega (arith, same)) c.copy.ensures
-          ∙ laid-over-all (take end c.args.stripe.now) c.args.buffer.now same
+          (copied-whole same c.copy.ensures
           ∙ ap (λ n. take n c.args.stripe.now) (data-end (goal.at.returns c).In-Accepted));
     }
