@@ -1,4 +1,4 @@
--- Points that differ, found by trying them one after another. In order: none; one more; each of them is fresh; they differ, or they don't.
+-- Points differ, or they don't. In order: none; one more; of points that differ none is one of those before it; they differ, or they don't.
 use mathlib.Core.Path.{◌≡◌, sym, ap, ◌∙◌, subst}
 use mathlib.Core.Logic.{◌⊎◌, inl, inr}
 use mathlib.Core.List.{List}
@@ -9,17 +9,17 @@ use native.Mathlib.Numerals.{add-one}
 use native.Mathlib.Omega.{arith}
 use borrow.Author.Count.{below_more}
 use lib.ListN.{get_or}
+use Rattle.std.proofs.lemmas.Bool.{cases_lt}
 use Rattle.distinct.specs.Promise.{Apart, FewApart}
-use Rattle.distinct.proofs.Indices.{before_or_past}
 
 abbrev Fresh : List ℕ → ℕ → Type 0
 Fresh points i = (j : ℕ) → j < i → get_or points j 0 ≡ get_or points i 0 → ⊥
 
-pub apart_none : (points : List ℕ) → Apart 0 points
+apart_none : (points : List ℕ) → Apart 0 points
 apart_none points i j hi hj e = absurd (omega arith)
 
 -- one point more
-pub apart_more : (points : List ℕ) (i : ℕ) → Apart i points → Fresh points i → Apart (i + 1) points
+apart_more : (points : List ℕ) (i : ℕ) → Apart i points → Fresh points i → Apart (i + 1) points
 apart_more points i apart fresh u v hu hv e = go (last u hu) (last v hv)
   where
     last : (w : ℕ) → w < i + 1 → (w ≡ i) ⊎ (w < i)
@@ -31,8 +31,8 @@ apart_more points i apart fresh u v hu hv e = go (last u hu) (last v hv)
     go (inr l) (inl q) = absurd (fresh u l (e ∙ ap (λ w. get_or points w 0) q))
     go (inr l) (inr m) = apart u v l m e
 
--- of points that differ each is fresh
-pub apart-fresh : (points : List ℕ) (count i : ℕ) → i < count → Apart count points → Fresh points i
+-- of points that differ none is one of those before it
+apart-fresh : (points : List ℕ) (count i : ℕ) → i < count → Apart count points → Fresh points i
 apart-fresh points count i l apart j h e =
     let same : j ≡ i = apart j i (omega arith) l e in
     omega arith
@@ -61,7 +61,7 @@ apart_or points (suc i) = go (apart_or points i) (others_or points i i)
 
 -- at most four points that differ, or not
 pub few-apart_or : (count : ℕ) (points : List ℕ) → FewApart count points ⊎ (FewApart count points → ⊥)
-few-apart_or count points = go (before_or_past 4 count) (apart_or points count)
+few-apart_or count points = go (cases_lt 4 count) (apart_or points count)
   where
     go : (4 < count) ⊎ (count ≤ 4) → Apart count points ⊎ (Apart count points → ⊥) → FewApart count points ⊎ (FewApart count points → ⊥)
     go (inl many) differ = inr (λ way. omega (arith, way.few))

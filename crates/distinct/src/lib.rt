@@ -1,5 +1,4 @@
-// Points that differ. `apart` takes every input: it has no `requires`. What it promises is a record of specs/Promise.antt. (`fresh` has a `requires`; it can't
-// be named from outside.)
+// Points that differ. `apart` takes every input: it has no `requires`. What it promises is a record of specs/Promise.antt.
 #![tactic(auto)]
 
 mod comparing;

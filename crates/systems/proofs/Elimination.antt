@@ -7,6 +7,7 @@ use mathlib.Core.List.{List, [], ◌∷◌}
 use Prim.Native.Nat.{ℕ, zero, suc, ◌+◌, ◌<◌, ◌≤◌}
 use native.Mathlib.Omega.{arith}
 use lib.ListN.{get_or}
+use Rattle.std.proofs.lemmas.Bool.{cases_lt}
 use Rattle.theory.specs.Sum.{sum}
 use Rattle.theory.specs.Newton.{newton, eliminated}
 use Rattle.theory.proofs.Sums as laws
@@ -20,7 +21,6 @@ use Rattle.rules.proofs.Ties.{sum_tie}
 use Rattle.distinct.specs.Promise.{Apart}
 use Rattle.systems.specs.System.{moment}
 use Rattle.systems.specs.Kernel.{staged, dotted}
-use Rattle.distinct.proofs.Indices.{before_or_past}
 use Rattle.systems.proofs.Sums.{sum-short}
 use Rattle.systems.proofs.Ties.{field_point, apart_tie, moment_tie, moment-below}
 
@@ -48,6 +48,9 @@ thirds points = 0 ∷ 0 ∷ 0 ∷ get_or points 2 0 ∷ []
 -- nothing is gained
 no_gain : (x y : ℕ) → add x (mul 0 y) ≡ x
 no_gain x y = ap (add x) (zero-mul y) ∙ add-zero x
+
+pub gained_none : (x p : ℕ) → add x (mul p 0) ≡ x
+gained_none x p = ap (add x) (mul-zero p) ∙ add-zero x
 
 module _ (points : List ℕ) (f g h e : ℕ → ℕ)
     (one : (i : ℕ) → i < 4 → g i ≡ staged (firsts points) f i)
@@ -94,7 +97,7 @@ module _ (points : List ℕ) (S : ℕ → ℕ → ℕ) (s : Stages points S) whe
 
   pub stages-below : ((i : ℕ) → i < 4 → S 0 i < 256) → (k i : ℕ) → k < 4 → i < 4 → S k i < 256
   stages-below small zero i hk hi = small i hi
-  stages-below small (suc k) i hk hi = go (before_or_past k i) (stages-below small k)
+  stages-below small (suc k) i hk hi = go (cases_lt k i) (stages-below small k)
     where
       past : (i : ℕ) → k < i → i < 4 → ((i : ℕ) → k < 4 → i < 4 → S k i < 256) → S (suc k) i < 256
       past zero l hi ih = absurd (omega arith)

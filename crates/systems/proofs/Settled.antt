@@ -7,13 +7,13 @@ use Prim.Native.Nat.{ℕ, ◌<◌, ◌≤◌}
 use native.Mathlib.Omega.{arith}
 use lib.ListN.{get_or}
 use lib.Seq.{ext_get_or}
+use Rattle.std.proofs.lemmas.Bool.{cases_lt}
 use Rattle.theory.proofs.Vandermonde.{square_only}
 use Rattle.field.specs.Number.{modulus, add, double, by_bits, mul, power}
 use Rattle.field.proofs.Numbers.{numbers, number, number_injective}
 use Rattle.rules.specs.Equation.{sum_below}
 use Rattle.rules.specs.Stripe.{IsBytes}
 use Rattle.distinct.specs.Promise.{Apart, FewApart}
-use Rattle.distinct.proofs.Indices.{before_or_past}
 use Rattle.distinct.proofs.Distinct.{few-apart_or}
 use Rattle.distinct.proofs.Settled.{points, one_two_apart}
 use Rattle.systems.specs.System.{moment, Solves}
@@ -38,7 +38,7 @@ solves-only : (count : ℕ) (points given xs ys : List ℕ) → count ≤ 4 → 
     → Solves count points given ys
     → xs ≡ ys
 solves-only count points given xs ys few bytes apart p q =
-    ext_get_or 0 xs ys (p.bytes.exact ∙ sym q.bytes.exact) (λ j l. ⊎_elim (inside j) (past j) (before_or_past j count))
+    ext_get_or 0 xs ys (p.bytes.exact ∙ sym q.bytes.exact) (λ j l. ⊎_elim (inside j) (past j) (cases_lt j count))
   where
     inside : (j : ℕ) → j < count → get_or xs j 0 ≡ get_or ys j 0
     inside =

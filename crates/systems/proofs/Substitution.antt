@@ -1,10 +1,10 @@
--- Back substitution. In order: an array with one number stored, in a sum of products; what holds while the unknowns below index i are still to be found; at the
--- start; one more found; the end.
+-- Back substitution. In order: an array with one number stored, in a sum of products; what holds while the unknowns below index i are still to be found;
+-- one more found.
 --   Unfinished count i rows given found == found is four bytes, 0 below i and past `count`; the rows from i on times found are the numbers given
-use mathlib.Core.Path.{◌≡◌, refl, sym, ap, ap₂, ◌∙◌}
+use mathlib.Core.Path.{◌≡◌, sym, ap, ap₂, ◌∙◌}
 use mathlib.Core.Logic.{◌⊎◌, inl, inr}
-use mathlib.Core.List.{List, [], ◌∷◌}
-use Prim.Native.Nat.{ℕ, zero, suc, ◌<◌, ◌≤◌}
+use mathlib.Core.List.{List}
+use Prim.Native.Nat.{ℕ, suc, ◌<◌, ◌≤◌}
 use native.Mathlib.Decide.{ℕ_discrete}
 use native.Mathlib.Nat.{eq-or-lt_of_le}
 use native.Mathlib.Omega.{arith}
@@ -14,7 +14,7 @@ use Rattle.field.specs.Number.{add, mul}
 use Rattle.field.proofs.Xor.{sums, add-zero}
 use Rattle.field.proofs.Product.{mul-zero, zero-mul, mul_comm}
 use Rattle.systems.specs.System.{entry}
-use Rattle.systems.specs.Kernel.{dotted, Triangle, Substituted}
+use Rattle.systems.specs.Kernel.{dotted, Triangle}
 use Rattle.systems.proofs.Sums.{sum-changed}
 
 pub dotted-set : (row : ℕ → ℕ) (found : List ℕ) (h q : ℕ) → h < 4 → length found ≡ 4 → get_or found h 0 ≡ 0
@@ -33,26 +33,6 @@ pub record Unfinished (count i : ℕ) (rows : List (List ℕ)) (given found : Li
   pub before : (j : ℕ) → j < i → get_or found j 0 ≡ 0
   pub rest : (j : ℕ) → count ≤ j → get_or found j 0 ≡ 0
   pub sums : (h : ℕ) → i ≤ h → h < count → dotted (entry rows h) (λ j. get_or found j 0) ≡ get_or given h 0
-
-abbrev pub zeros : List ℕ
-zeros = 0 ∷ 0 ∷ 0 ∷ 0 ∷ []
-
-zeros-at : (j : ℕ) → get_or zeros j 0 ≡ 0
-zeros-at zero = refl
-zeros-at (suc zero) = refl
-zeros-at (suc (suc zero)) = refl
-zeros-at (suc (suc (suc zero))) = refl
-zeros-at (suc (suc (suc (suc j)))) = refl
-
-pub unfinished_start : (count : ℕ) (rows : List (List ℕ)) (given : List ℕ) → Unfinished count count rows given zeros
-unfinished_start count rows given = record {
-  most = omega arith;
-  exact = refl;
-  bytes = λ j. omega (arith, zeros-at j);
-  before = λ j h. zeros-at j;
-  rest = λ j h. zeros-at j;
-  sums = λ h low high. absurd (omega arith);
-}
 
 module _ (count i h q : ℕ) (rows : List (List ℕ)) (given found : List ℕ) (few : count ≤ 4) (triangle : Triangle count rows) (next : suc h ≡ i)
     (u : Unfinished count i rows given found) (small : q < 256)
@@ -97,11 +77,3 @@ module _ (count i h q : ℕ) (rows : List (List ℕ)) (given found : List ℕ) (
     rest = λ j l. stored_other j (λ e. omega (arith, u.most)) ∙ u.rest j l;
     sums = later-sums;
   }
-
-pub unfinished_end : (count i : ℕ) (rows : List (List ℕ)) (given found : List ℕ) → i ≤ 0 → Unfinished count i rows given found
-    → Substituted count rows given found
-unfinished_end count i rows given found none u = record {
-  bytes = record { exact = u.exact; bytes = λ k l. u.bytes k };
-  sums = λ k l. u.sums k (omega arith) l;
-  rest = u.rest;
-}

@@ -1,8 +1,7 @@
 -- What the private functions promise, in the order in which the row solver calls them.
 --   PowersAre points rows == `powers`: row t has every point to the power t
 --   Products xs ys found  == `products`: number by number
---   Gained p above x later == `gained`: later is x plus p times above
---   RowGained p above row later == `gained_row`: the same for each number of a row
+--   Gained factors beside row later == `gained`: each later number is the row's plus its factor times the number beside it
 --   staged factors f      == a column of numbers after a stage: the first stays, and each other gets its factor times the one above it, as that was before
 --   RowsStaged factors before later == `stage`: every column of the table so
 --   GivenStaged factors before later == `given_stage`: the numbers given so
@@ -22,11 +21,8 @@ pub record Products (xs ys found : List ℕ) : Type 0 where
 pub record PowersAre (points : List ℕ) (rows : List (List ℕ)) : Type 0 where
   pub each : (t j : ℕ) → t < 4 → j < 4 → entry rows t j ≡ power (get_or points j 0) t
 
-pub record Gained (p above x later : ℕ) : Type 0 where
-  pub value : later ≡ add x (mul p above)
-
-pub record RowGained (p : ℕ) (above row later : List ℕ) : Type 0 where
-  pub each : (j : ℕ) → j < 4 → get_or later j 0 ≡ add (get_or row j 0) (mul p (get_or above j 0))
+pub record Gained (factors beside row later : List ℕ) : Type 0 where
+  pub each : (j : ℕ) → j < 4 → get_or later j 0 ≡ add (get_or row j 0) (mul (get_or factors j 0) (get_or beside j 0))
 
 unfoldable pub staged : List ℕ → (ℕ → ℕ) → ℕ → ℕ
 staged factors f zero = f zero

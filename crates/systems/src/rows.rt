@@ -1,7 +1,7 @@
 // What the row solver does with rows of numbers: the table of powers, a stage of the elimination, back substitution. Functions of this module may have a
 // `requires`; none can be named from outside the crate.
 ghost use Rattle.std.specs.Prelude.{◌≤◌, ◌<◌};
-ghost use Rattle.systems.specs.Kernel.{PowersAre, Products, Gained, RowGained, RowsStaged, GivenStaged, DotIs, QuotientOf, Triangle, Substituted};
+ghost use Rattle.systems.specs.Kernel.{PowersAre, Products, Gained, RowsStaged, GivenStaged, DotIs, QuotientOf, Triangle, Substituted};
 
 use field::times;
 use tables::{Quotient, divide};
@@ -10,73 +10,57 @@ use tables::{Quotient, divide};
 fn products(xs: [u8; 4], ys: [u8; 4]) -> [u8; 4]
     ensures { Products xs ys result }
 {
-    [
-        times(xs[0], ys[0]),
-        times(xs[1], ys[1]),
-        times(xs[2], ys[2]),
-        times(xs[3], ys[3]),
-    ]
+    std::array::from_fn(|j| times(xs[j], ys[j]))
 }
 
 // The table: row t has every point to the power t. Power 0 of 0 is 1.
+#[tactic(auto, using(distinct::proofs::Indices::four), unfolding(field::specs::Number::power))]
 pub fn powers(points: [u8; 4]) -> [[u8; 4]; 4]
     ensures { PowersAre points result }
 {
-    let ones = [1, 1, 1, 1];
-    let squares = products(points, points);
+    let ones = [1; 4];
+    let firsts = products(ones, points);
+    let squares = products(firsts, points);
     let cubes = products(squares, points);
-    [ones, points, squares, cubes]
+    [ones, firsts, squares, cubes]
 }
 
-// A number plus p times the one above it.
-fn gained(x: u8, above: u8, p: u8) -> u8
-    ensures { Gained p above x result }
+// Four numbers, each plus its factor times the number beside it.
+#[tactic(auto, unfolding(field::specs::Number::add))]
+fn gained(row: [u8; 4], beside: [u8; 4], factors: [u8; 4]) -> [u8; 4]
+    ensures { Gained factors beside row result }
 {
-    x ^ times(p, above)
-}
-
-// A row plus p times the row above it.
-fn gained_row(row: [u8; 4], above: [u8; 4], p: u8) -> [u8; 4]
-    ensures { RowGained p above row result }
-{
-    [
-        gained(row[0], above[0], p),
-        gained(row[1], above[1], p),
-        gained(row[2], above[2], p),
-        gained(row[3], above[3], p),
-    ]
+    std::array::from_fn(|j| row[j] ^ times(factors[j], beside[j]))
 }
 
 // A stage of the elimination: each row but the first gets its factor times the row above it, as that was before the stage.
+#[tactic(auto, using(distinct::proofs::Indices::four), unfolding(crate::specs::Kernel::staged))]
 pub fn stage(rows: [[u8; 4]; 4], factors: [u8; 4]) -> [[u8; 4]; 4]
     ensures { RowsStaged factors rows result }
 {
-    let second = gained_row(rows[1], rows[0], factors[1]);
-    let third = gained_row(rows[2], rows[1], factors[2]);
-    let fourth = gained_row(rows[3], rows[2], factors[3]);
-    [rows[0], second, third, fourth]
-}
-
-// The same stage for the numbers given.
-pub fn given_stage(given: [u8; 4], factors: [u8; 4]) -> [u8; 4]
-    ensures { GivenStaged factors given result }
-{
     [
-        given[0],
-        gained(given[1], given[0], factors[1]),
-        gained(given[2], given[1], factors[2]),
-        gained(given[3], given[2], factors[3]),
+        rows[0],
+        gained(rows[1], rows[0], [factors[1]; 4]),
+        gained(rows[2], rows[1], [factors[2]; 4]),
+        gained(rows[3], rows[2], [factors[3]; 4]),
     ]
 }
 
+// The same stage for the numbers given.
+#[tactic(auto, using(distinct::proofs::Indices::four, crate::proofs::Elimination::gained_none), unfolding(crate::specs::Kernel::staged))]
+pub fn given_stage(given: [u8; 4], factors: [u8; 4]) -> [u8; 4]
+    ensures { GivenStaged factors given result }
+{
+    gained(given, [0, given[0], given[1], given[2]], factors)
+}
+
 // The sum of four products.
+#[tactic(auto, unfolding(crate::specs::Kernel::dotted, rules::specs::Equation::sum_below, field::specs::Number::add))]
 fn dot(row: [u8; 4], found: [u8; 4]) -> u8
     ensures { DotIs row found result }
 {
-    times(row[0], found[0])
-        ^ times(row[1], found[1])
-        ^ times(row[2], found[2])
-        ^ times(row[3], found[3])
+    let [a, b, c, d] = products(row, found);
+    a ^ b ^ c ^ d
 }
 
 // The quotient, by a number that isn't 0.
@@ -96,13 +80,10 @@ pub fn substituted(count: usize, rows: [[u8; 4]; 4], given: [u8; 4]) -> [u8; 4]
     requires triangle { Triangle count rows }
     ensures { Substituted count rows given result }
 {
-    let mut found = [0, 0, 0, 0];
-    let mut i = count;
-    while 0 < i {
-        let h = i - 1;
+    let mut found = [0; 4];
+    for h in (0..count).rev() {
         let row = rows[h];
         found[h] = quotient(given[h] ^ dot(row, found), row[h]);
-        i = h;
     }
     found
 }

@@ -1,8 +1,5 @@
 use Rattle.systems.proofs.Substitution.{Unfinished}
 use Rattle.systems.proofs.rows.substituted.Given as goal
 
-abbrev pub invariant-loop-i : goal.invariant-loop-i
-invariant-loop-i l = Unfinished l.count l.i l.rows l.given l.found
-
-abbrev pub decreases-loop-i : goal.decreases-loop-i
-decreases-loop-i l = l.i
+abbrev pub invariant-loop-h : goal.invariant-loop-h
+invariant-loop-h l = Unfinished l.count l.h l.rows l.given l.found
