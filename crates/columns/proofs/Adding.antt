@@ -1,39 +1,27 @@
--- A loop that adds products to bytes, one after the other. In order: the next byte; all bytes, also where there are fewer to add.
---   sum_at c from before k == the byte at k of `before` plus c times that of `from`
+-- Sums with bytes that a step makes, where the step multiplies: a byte that isn't there counts as 0.
 -- Assumes nothing.
-use mathlib.Core.Path.{◌≡◌, refl, sym, ap, ap₂, ◌∙◌}
-use mathlib.Core.List.{List}
-use mathlib.Core.Bool.{Bool, true, false}
-use Prim.Native.Nat.{ℕ, ◌<◌, ◌≤◌, min}
-use native.Mathlib.Omega.{arith}
-use lib.Bits.{bit_xor}
-use lib.ListN.{length, get_or, get_or-eq_default}
-use lib.Dec.{ltb}
-use borrow.Author.Tests.{ltb-true, ltb-false}
+use Rattle.std.proofs.Common.{◌≡◌, ℕ, inl, inr, List, length, get_or, sym, ap, ◌∙◌}
+use Rattle.std.proofs.lemmas.Bool.{cases_lt}
+use Rattle.std.proofs.lemmas.List.{get_or_past}
 use Rattle.field.specs.Number.{add, mul}
 use Rattle.field.proofs.Product.{mul-zero}
 use Rattle.field.proofs.Xor.{add-zero}
+use Rattle.columns.specs.Kernel.{AddsEach}
 use Rattle.columns.specs.Promise.{Multiplied}
-use Rattle.columns.proofs.Kernels.{Written, written-here}
 
-abbrev pub sum_at : ℕ → List ℕ → List ℕ → ℕ → ℕ
-sum_at c from before k = add (get_or before k 0) (mul c (get_or from k 0))
-
-module _ (c : ℕ) (from before : List ℕ) {later : List ℕ} {j : ℕ} (written : Written (sum_at c from before) j before later) where
-  -- the code's sum at j, with the byte x for the product, is the byte to come
-  pub next-byte : {x : ℕ} → x ≡ mul c (get_or from j 0) → bit_xor (get_or later j 0) x ≡ sum_at c from before j
-  unfolding add
-  next-byte e = ap₂ bit_xor (written-here written) e
-
-  -- where `from` has no byte left, nothing is added
-  pub every_byte : {size : ℕ} → size ≡ min (length before) (length from) → size ≤ j → Multiplied c from before later
-  every_byte e h = record { same_length = written.same_length; bytes = λ k hk. go k hk (ltb k j) refl }
-    where
-      go : (k : ℕ) → k < length before → (b : Bool) → ltb k j ≡ b → get_or later k 0 ≡ sum_at c from before k
-      go k hk true l = written.done k (ltb-true k j l)
-      go k hk false l =
-          written.kept k (ltb-false k j l)
-          ∙ sym
-          (ap (λ x. add (get_or before k 0) (mul c x)) (get_or-eq_default from 0 (omega (arith, ltb-false k j l)))
-          ∙ ap (add (get_or before k 0)) (mul-zero c)
-          ∙ add-zero (get_or before k 0))
+pub multiplied-by : (c : ℕ) {may : ℕ → ℕ → Type 0} {from before later : List ℕ}
+    → ((j y : ℕ) → may (get_or from j 0) y → y ≡ mul c (get_or from j 0))
+    → AddsEach may from before later
+    → Multiplied c from before later
+multiplied-by c {may} {from} {before} {later} multiplies adds = record {
+  same_length = adds.same_length;
+  bytes = λ j h. elim (cases_lt j (length from)) [
+    inl a ↦ let p = adds.bytes j h a in p.1.1 ∙ ap (add (get_or before j 0)) (multiplies j p.0 p.1.0)
+  | inr b ↦
+      adds.kept j b
+      ∙ sym
+      (ap (λ x. add (get_or before j 0) (mul c x)) (get_or_past from j 0 b)
+      ∙ ap (add (get_or before j 0)) (mul-zero c)
+      ∙ add-zero (get_or before j 0))
+  ];
+}
