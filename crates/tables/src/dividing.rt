@@ -2,7 +2,7 @@
 ghost use Rattle.tables.specs.Promise.{QuotientIs};
 
 use crate::answers::Quotient;
-use crate::tables::{logarithm, power_of_two, wide};
+use crate::tables::{logarithm, power_of_two};
 
 // The number whose product with b is a; refused with number 9 where b is 0.
 pub fn divide(a: u8, b: u8) -> Quotient
@@ -14,6 +14,6 @@ pub fn divide(a: u8, b: u8) -> Quotient
     if a == 0 {
         return Quotient::Number(0);
     }
-    let t = wide(logarithm(a)) + 255 - wide(logarithm(b));
+    let t = logarithm(a) + 255 - logarithm(b);
     Quotient::Number(power_of_two(t))
 }

@@ -70,16 +70,9 @@ pub fn power_of_two(t: usize) -> u8
 }
 
 // The exponent below 255 of the power of 2 that a is. It is the only one: `powers-once`.
-pub fn logarithm(a: u8) -> u8
+pub fn logarithm(a: u8) -> usize
     requires { 0 < a }
     ensures { (result < 255) × (power 2 result ≡ a) }
 {
-    LOGARITHMS[a as usize]
-}
-
-// A byte as an index.
-pub fn wide(x: u8) -> usize
-    ensures { (result ≡ x) × (result < 256) }
-{
-    x as usize
+    usize::from(LOGARITHMS[usize::from(a)])
 }

@@ -1,7 +1,7 @@
 -- `tables::divide` meets its contract: where neither number is 0, the power of 2 whose exponent is the difference of the logarithms, plus
 -- 255 so that it is not below 0, is the quotient.
-use mathlib.Core.Path.{sym, ap, ap₂, ◌∙◌}
-use Rattle.field.specs.Number.{mul, power}
+use mathlib.Core.Path.{sym, ap₂, ◌∙◌}
+use Rattle.field.specs.Number.{mul}
 use Rattle.field.proofs.Product.{zero-mul}
 use Rattle.tables.proofs.Exponents.{quotient_by_logs}
 use borrow.Author.Rules.{rules}
@@ -12,10 +12,8 @@ returns-then-a-eq0 c = record { divisor = search rules; small = search rules; va
 
 pub returns : goal.returns
 returns c =
-    let a-is = ap (power 2) c.wide.ensures.0 ∙ c.logarithm.ensures.1 in
-    let b-is = ap (power 2) c.wide-2.ensures.0 ∙ c.logarithm-2.ensures.1 in
     record {
       divisor = search rules;
       small = search rules;
-      value = ap₂ mul c.power_of_two.ensures (sym b-is) ∙ quotient_by_logs c.wide.result c.wide-2.result (search rules) ∙ a-is;
+      value = ap₂ mul c.power_of_two.ensures (sym c.logarithm-2.ensures.1) ∙ quotient_by_logs c.logarithm.result c.logarithm-2.result (search rules) ∙ c.logarithm.ensures.1;
     }

@@ -17,15 +17,14 @@ returns-then-a-eq0 c =
     let t = c.args.t in
     record { value = sym (ap (λ x. power x t) c.if-a-eq0.true ∙ zero-power t (search rules)) }
 
-pub overflow_mul-wide : goal.overflow_mul-wide
-overflow_mul-wide c =
-    let l = c.wide.result in
+pub overflow_mul-logarithm : goal.overflow_mul-logarithm
+overflow_mul-logarithm c =
+    let l = c.logarithm.result in
     let t = c.args.t % 255 in
     record { fits = omega (arith, mul-le-mul {n₁ = l} {m₁ = t} {n₂ = 255} {m₂ = 254} (omega arith) (omega arith)) }
 
 pub returns : goal.returns
 returns c =
-    let l = c.wide.result in
+    let l = c.logarithm.result in
     let t = c.args.t in
-    let base = ap (power 2) c.wide.ensures.0 ∙ c.logarithm.ensures.1 in
-    record { value = c.power_of_two.ensures ∙ power_by_log l t ∙ ap (λ x. power x t) base }
+    record { value = c.power_of_two.ensures ∙ power_by_log l t ∙ ap (λ x. power x t) c.logarithm.ensures.1 }
