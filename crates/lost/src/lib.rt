@@ -1,6 +1,6 @@
 // The lost nodes as flags, and columns copied by them.
 //
-// Every function takes every input and ends: none has a `requires`. What each promises is a record of specs/Promise.antt.
+// Every public function takes every input and ends: none has a `requires`. What each promises is a record of specs/Promise.antt.
 #![tactic(auto)]
 
 mod copying;
