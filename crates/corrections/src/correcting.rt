@@ -2,6 +2,7 @@
 ghost use Rattle.std.specs.Prelude.{◌≡◌, length};
 ghost use Prim.Native.Nat.{◌≤◌, ◌<◌, ◌+◌, ◌*◌, compare};
 ghost use Rattle.rules.specs.Promise.{SizesAre};
+ghost use Rattle.columns.specs.Promise.{ByteIs};
 ghost use Rattle.corrections.specs.Correction.{correction_by, ColumnsCorrected};
 ghost use Rattle.corrections.specs.Promise.{CorrectionsAre};
 ghost use Rattle.corrections.specs.Kernel.{ColumnCorrected};
@@ -31,88 +32,97 @@ fn correction(u: usize, d: usize, paired: bool, own: u8, other: u8) -> u8
     times(own, 142)
 }
 
-// Adds the corrections to the column of the node at place u of a group, at the rows that have the score asked for. `group` holds what the weights of the
-// group's nodes fall short by, column by column; w is what a 1 as the group's digit counts, and `first` the group's first node.
-fn correct_column(
-    column: &mut [u8],
-    group: &[u8],
-    s: usize,
-    w: usize,
-    first: usize,
+// Which columns are corrected, by the flags of their nodes, and at which rows: those that have the score asked for.
+#[derive(Clone, Copy)]
+struct Asked<'a> {
     flags: [bool; 16],
-    u: usize,
-    scores: &[u8],
+    scores: &'a [u8],
     level: u8,
-)
-    requires w_nonzero { (0 < w) × (w ≤ 256) }
-    requires u_lt_s { (u < s) × (s ≤ 4) × (first + s ≤ 16) }
-    requires column_len_bound { (length column.old ≤ 256) × (length column.old ≤ length scores.now) }
-    ensures { ColumnCorrected s w group.now first flags u scores.now level column.old column.new }
-{
-    let l = column.len();
-    // The group's digit of row a, and what the digits below it count. They are carried along, so that no row divides.
-    let mut d = 0;
-    let mut j = 0;
-    let mut a = 0;
-    while a < l {
-        let old = column[a];
-        if scores[a] == level {
-            let own = byte_at(group, u * l + a);
-            let other = byte_at(group, d * l + (a - d * w + u * w));
-            column[a] = old ^ correction(u, d, flags[first + d], own, other);
-        }
-        j = j + 1;
-        if j == w {
-            j = 0;
-            d = d + 1;
-            if d == s {
-                d = 0;
+}
+
+// A group of nodes.
+#[derive(Clone, Copy)]
+struct Group<'a> {
+    // The group's first node, from 0.
+    first: usize,
+    // How many nodes it has.
+    s: usize,
+    // What a 1 as the group's digit counts.
+    w: usize,
+    // Rows.
+    l: usize,
+    // What the weights of the group's nodes fall short by, column by column.
+    short: &'a [u8],
+    ghost nodes: { first + s ≤ 16 },
+    ghost few: { s ≤ 4 },
+    ghost worth_some: { 0 < w },
+    ghost worth_most: { w ≤ 256 },
+    ghost rows_most: { l ≤ 256 },
+}
+
+impl Group<'_> {
+    // What the weight of the node at place u falls short by at row a.
+    fn short_at(&self, u: usize, a: usize) -> u8
+        requires small { (u < 4) × (a ≤ 2048) }
+        ensures { ByteIs self.now.short.now (u * self.now.l + a) result }
+    {
+        byte_at(self.short, u * self.l + a)
+    }
+
+    // Adds the corrections to the column of the node at place u.
+    fn correct_column(&self, u: usize, asked: &Asked, column: &mut [u8])
+        requires place { u < self.now.s }
+        requires rows { (length column.old ≡ self.now.l) × (self.now.l ≤ length asked.now.scores.now) }
+        ensures { ColumnCorrected self.now.s self.now.w self.now.short.now self.now.first asked.now.flags u asked.now.scores.now asked.now.level column.old column.new }
+    {
+        // The group's digit of row a, and what the digits below it count. They are carried along, so that no row divides.
+        let mut d = 0;
+        let mut j = 0;
+        for (a, byte) in column.iter_mut().enumerate() {
+            if asked.scores[a] == asked.level {
+                let own = self.short_at(u, a);
+                let other = self.short_at(d, a - d * self.w + u * self.w);
+                *byte ^= correction(u, d, asked.flags[self.first + d], own, other);
+            }
+            j += 1;
+            if j == self.w {
+                j = 0;
+                d += 1;
+                if d == self.s {
+                    d = 0;
+                }
             }
         }
-        a = a + 1;
     }
 }
 
-// The same for all chosen columns of a stripe. `short` holds what the weights of all m × s nodes fall short by.
-fn correct_chosen(
-    shape: Shape,
-    z: Sizes,
-    flags: [bool; 16],
-    scores: &[u8],
-    level: u8,
-    short: &[u8],
-    stripe: &mut [u8],
-)
+// Corrects all chosen columns of a stripe. `short` holds what the weights of all m × s nodes fall short by.
+fn correct_chosen(shape: Shape, z: Sizes, asked: &Asked, short: &[u8], stripe: &mut [u8])
     requires sizes_are { SizesAre shape z }
-    requires l_in_bounds { (z.l ≤ length scores.now) × (length short.now ≡ z.m * z.s * z.l) × (length stripe.old ≡ z.n * z.l) }
-    ensures { ColumnsCorrected shape flags scores.now level short.now stripe.old stripe.new }
+    requires scores_enough { z.l ≤ length asked.now.scores.now }
+    requires short_exact { length short.now ≡ z.m * z.s * z.l }
+    requires exact { length stripe.old ≡ z.n * z.l }
+    ensures { ColumnsCorrected shape asked.now.flags asked.now.scores.now asked.now.level short.now stripe.old stripe.new }
 {
     let s = z.s;
     let l = z.l;
-    let n = z.n;
-    let mut i = 0;
-    while i < n {
-        if flags[i] {
+    for i in 0..z.n {
+        if asked.flags[i] {
             let v = i / s;
             let first = v * s;
             let start = i * l;
             let stop = start + l;
             let from = first * l;
             let to = from + s * l;
-            let w = worth(shape, v + 1);
-            correct_column(
-                &mut stripe[start..stop],
-                &short[from..to],
-                s,
-                w,
+            let group = Group {
                 first,
-                flags,
-                i % s,
-                scores,
-                level,
-            );
+                s,
+                w: worth(shape, v + 1),
+                l,
+                short: &short[from..to],
+            };
+            group.correct_column(i % s, asked, &mut stripe[start..stop]);
         }
-        i = i + 1;
     }
 }
 
@@ -141,6 +151,11 @@ pub fn correct_columns(
     if stripe.len() != z.n * z.l {
         return false;
     }
-    correct_chosen(shape, z, flags, scores, level, short, stripe);
+    let asked = Asked {
+        flags,
+        scores,
+        level,
+    };
+    correct_chosen(shape, z, &asked, short, stripe);
     true
 }

@@ -52,7 +52,9 @@ pub correct_chosen-requires : goal.correct_chosen-requires
 correct_chosen-requires c =
     record {
       sizes_are = sizes (goal.at.correct_chosen-requires c).In-Accepted;
-      l_in_bounds = (c.if-scores-z.false, c.if-short-z.false, c.if-stripe-z.false);
+      scores_enough = c.if-scores-z.false;
+      short_exact = c.if-short-z.false;
+      exact = c.if-stripe-z.false;
     }
 
 -- past all tests
