@@ -1,25 +1,22 @@
 -- Columns of unknowns, by constants. In order: a column after t of the columns of sums are added; all columns below j.
 --   CombinedTo t size weights sums column   == the column has the sum of the first t columns of sums, each times its weight
 --   WrittenTo j count rows size sums before later == the columns below j are written
-use mathlib.Core.Path.{◌≡◌, refl, sym, ap, ap₂, ◌∙◌}
-use mathlib.Core.List.{List, [], ◌∷◌}
+use mathlib.Core.Path.{◌≡◌, sym, ap, ap₂, ◌∙◌}
+use mathlib.Core.List.{List}
 use Prim.Native.Nat.{ℕ, ◌+◌, ◌-◌, ◌*◌, ◌<◌, ◌≤◌}
-use native.Mathlib.Nat.{le_antisymm}
 use native.Mathlib.Numerals.{add-one}
 use native.Mathlib.Omega.{arith}
 use borrow.Author.Count.{below_more}
 use borrow.Rule.Slice.PartMut.{put_mid}
-use lib.ListN.{length, get_or, take, drop}
+use lib.ListN.{length, get_or, take, drop, replicate, length-replicate, get_or-replicate}
 use Rattle.field.specs.Number.{add, mul}
 use Rattle.rules.proofs.Ties.{sum_same}
 use Rattle.columns.specs.Promise.{Multiplied}
 use Rattle.columns.proofs.Kernels.{column-within}
 use Rattle.columns.proofs.Parts.{part_length, part-byte, put-before, put-inside, put-length}
 use Rattle.solver.specs.Solve.{columns_at}
-use Rattle.columns.specs.Promise.{Cleared}
 use Rattle.systems.specs.System.{entry}
-use Rattle.solver.specs.Kernel.{combined, Combined, ColumnsAre}
-use Rattle.distinct.proofs.Indices.{four}
+use Rattle.solver.specs.Kernel.{WeightsAre, combined, Combined}
 use Rattle.systems.proofs.Sums.{sum-zero, sum-suc}
 
 pub combined-none : (size : ℕ) (weights : ℕ → ℕ) (sums : List ℕ) (a : ℕ) → combined 0 size weights sums a ≡ 0
@@ -40,10 +37,10 @@ pub record CombinedTo (t size : ℕ) (weights sums column : List ℕ) : Type 0 w
   pub exact : length column ≡ size
   pub bytes : (a : ℕ) → a < size → get_or column a 0 ≡ combined t size (λ u. get_or weights u 0) sums a
 
-pub combined_start : (weights sums before column : List ℕ) → Cleared before column → CombinedTo 0 (length before) weights sums column
-combined_start weights sums before column cleared = record {
-  exact = cleared.same_length;
-  bytes = λ a l. cleared.bytes a l ∙ sym (combined-none (length before) (λ u. get_or weights u 0) sums a);
+pub combined_start : (size : ℕ) (weights sums : List ℕ) → CombinedTo 0 size weights sums (replicate size 0)
+combined_start size weights sums = record {
+  exact = length-replicate size 0;
+  bytes = λ a l. get_or-replicate size a 0 0 l ∙ sym (combined-none size (λ u. get_or weights u 0) sums a);
 }
 
 -- column t of the sums lies among them
@@ -58,36 +55,16 @@ combined-step t size weights sums column later fits done product = record {
       ∙ sym (combined_more t size (λ u. get_or weights u 0) sums a);
 }
 
-pub combined-end : (t count : ℕ) (weights sums before column : List ℕ) → t ≤ count → count ≤ t → CombinedTo t (length before) weights sums column
-    → Combined count weights sums before column
-combined-end t count weights sums before column most least done = record {
-  same_length = done.exact;
-  bytes = λ a l. done.bytes a l ∙ ap (λ n. combined n (length before) (λ u. get_or weights u 0) sums a) (le_antisymm most least);
-}
-
 pub record WrittenTo (j count : ℕ) (rows : List (List ℕ)) (size : ℕ) (sums before later : List ℕ) : Type 0 where
   pub same_length : length later ≡ length before
   pub bytes : (i : ℕ) → i < j → (a : ℕ) → a < size → columns_at size later a i ≡ combined count size (λ t. entry rows t i) sums a
 
-pub written_none : (count : ℕ) (rows : List (List ℕ)) (size : ℕ) (sums before : List ℕ) → WrittenTo 0 count rows size sums before before
-written_none count rows size sums before = record { same_length = refl; bytes = λ i h. absurd (omega arith) }
-
-pub written-end : (j count : ℕ) (rows : List (List ℕ)) (size : ℕ) (sums before later : List ℕ) → count ≤ j → WrittenTo j count rows size sums before later
-    → ColumnsAre count rows size sums before later
-written-end j count rows size sums before later least done = record {
-  same_length = done.same_length;
-  bytes = λ i a hi ha. done.bytes i (omega arith) a ha;
-}
-
--- the constants of unknown j
-abbrev pub constants_of : List (List ℕ) → ℕ → List ℕ
-constants_of rows j = entry rows 0 j ∷ entry rows 1 j ∷ entry rows 2 j ∷ entry rows 3 j ∷ []
-
-pub written_more : (j count : ℕ) (rows : List (List ℕ)) (size : ℕ) (sums before now column : List ℕ) → count ≤ 4 → (fits : j * size + size ≤ length now)
+pub written_more : (j count : ℕ) (rows : List (List ℕ)) (size : ℕ) (sums before now weights column : List ℕ) → count ≤ 4 → (fits : j * size + size ≤ length now)
     → WrittenTo j count rows size sums before now
-    → Combined count (constants_of rows j) sums (take (j * size + size - j * size) (drop (j * size) now)) column
+    → WeightsAre rows j weights
+    → Combined count weights sums (take (j * size + size - j * size) (drop (j * size) now)) column
     → WrittenTo (j + 1) count rows size sums before (put_mid (j * size) (j * size + size - j * size) now column)
-written_more j count rows size sums before now column few fits done new = record {
+written_more j count rows size sums before now weights column few fits done own new = record {
   same_length = put-length (j * size) size now fits column exact ∙ done.same_length;
   bytes =
       below_more _ j
@@ -96,8 +73,8 @@ written_more j count rows size sums before now column few fits done new = record
       (λ a l.
       put-inside (j * size) size now fits column exact a l
       ∙ new.bytes a (omega (arith, part))
-      ∙ ap (λ s. combined count s (λ t. get_or (constants_of rows j) t 0) sums a) part
-      ∙ combined_ext count size _ _ sums a (λ t h. four (λ t. get_or (constants_of rows j) t 0 ≡ entry rows t j) refl refl refl refl t (omega arith)));
+      ∙ ap (λ s. combined count s (λ t. get_or weights t 0) sums a) part
+      ∙ combined_ext count size _ _ sums a (λ t h. own.each t (omega arith)));
 }
   where
     part : length (take (j * size + size - j * size) (drop (j * size) now)) ≡ size

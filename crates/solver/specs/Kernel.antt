@@ -1,6 +1,7 @@
 -- What the private functions promise, in the order in which they are called.
 --   unit t                == the numbers given that are 1 at index t, and 0 else
 --   ConstantsAre count points rows == `constants`: row t solves for the unit t
+--   WeightsAre rows j weights == `weights_of`: what the rows have at column j
 --   combined count size weights sums a == the sum, over the columns of sums, of each one's weight times its byte at row a
 --   Combined, ColumnsAre  == `combine`, `write`: one column so; every column j, by the constants that the rows have at column j
 use Rattle.std.specs.Prelude.{◌≡◌, List, [], ◌∷◌, ℕ, zero, suc, ◌<◌, length, get_or}
@@ -17,6 +18,9 @@ unit (suc (suc (suc t))) = 0 ∷ 0 ∷ 0 ∷ 1 ∷ []
 
 pub record ConstantsAre (count : ℕ) (points : List ℕ) (rows : List (List ℕ)) : Type 0 where
   pub each : (t : ℕ) → t < 4 → Solves count points (unit t) (get_or rows t [])
+
+pub record WeightsAre (rows : List (List ℕ)) (j : ℕ) (weights : List ℕ) : Type 0 where
+  pub each : (t : ℕ) → t < 4 → get_or weights t 0 ≡ entry rows t j
 
 unfoldable pub combined : ℕ → ℕ → (ℕ → ℕ) → List ℕ → ℕ → ℕ
 combined count size weights sums a = sum_below count (λ t. mul (weights t) (columns_at size sums a t))

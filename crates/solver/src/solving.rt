@@ -2,14 +2,15 @@
 // `add_multiple` goes without.
 ghost use Rattle.std.specs.Prelude.{◌≡◌, ◌≤◌, ◌<◌, ◌*◌, length};
 ghost use Rattle.distinct.specs.Promise.{FewApart};
-ghost use Rattle.solver.specs.Kernel.{ConstantsAre, Combined, ColumnsAre};
+ghost use Rattle.solver.specs.Kernel.{ConstantsAre, WeightsAre, Combined, ColumnsAre};
 ghost use Rattle.solver.specs.Promise.{UnknownsAre};
 
-use columns::{add_multiple, clear};
+use columns::add_multiple;
 use distinct::apart;
 use systems::solve;
 
 // The constants: row t solves for a sum 1 of the powers t, and sums 0 of the others.
+#[tactic(auto, using(distinct::proofs::Indices::four))]
 fn constants(count: usize, points: [u8; 4]) -> [[u8; 4]; 4]
     requires { FewApart count points }
     ensures { ConstantsAre count points result }
@@ -28,14 +29,20 @@ fn combine(column: &mut [u8], sums: &[u8], count: usize, weights: [u8; 4])
     ensures { Combined count weights sums.now column.old column.new }
 {
     let size = column.len();
-    clear(column);
-    let mut t = 0;
-    while t < count {
+    column.fill(0);
+    for t in 0..count {
         let start = t * size;
         let stop = start + size;
         add_multiple(column, &sums[start..stop], weights[t]);
-        t = t + 1;
     }
+}
+
+// The constants by which unknown j is combined.
+fn weights_of(rows: [[u8; 4]; 4], j: usize) -> [u8; 4]
+    requires { j < 4 }
+    ensures { WeightsAre rows j result }
+{
+    std::array::from_fn(|t| rows[t][j])
 }
 
 // Every column by the constants, each as its own part of what is lent.
@@ -44,13 +51,10 @@ fn write(count: usize, rows: [[u8; 4]; 4], size: usize, sums: &[u8], found: &mut
     requires sums_len { (length sums.now ≡ count * size) × (length found.old ≡ count * size) }
     ensures { ColumnsAre count rows size sums.now found.old found.new }
 {
-    let mut j = 0;
-    while j < count {
+    for j in 0..count {
         let start = j * size;
         let stop = start + size;
-        let weights = [rows[0][j], rows[1][j], rows[2][j], rows[3][j]];
-        combine(&mut found[start..stop], sums, count, weights);
-        j = j + 1;
+        combine(&mut found[start..stop], sums, count, weights_of(rows, j));
     }
 }
 
