@@ -5,8 +5,9 @@ use mathlib.Core.Path.{◌≡◌, refl, sym, ap, ap₂, ◌∙◌}
 use mathlib.Core.Bool.{Bool, true, false, cond}
 use mathlib.Core.List.{List}
 use Prim.Native.Nat.{ℕ, suc, ◌+◌, ◌-◌, ◌*◌, ◌/◌, ◌%◌, ◌<◌, ◌≤◌, min, compare}
-use native.Mathlib.Nat.{div-add-mod', mod-lt, div-lt_iff_lt-mul, mul-le-mul_right, min-le_left, min-le_right, le-min, le_trans}
+use native.Mathlib.Nat.{mod-lt, mul-le-mul_right, min-le_left, min-le_right, le-min, le_trans}
 use native.Mathlib.Omega.{arith}
+use lib.Arith.{digits_div, digits_mod}
 use lib.Dec.{ltb}
 use lib.ListN.{get_or, take, drop, length-take, get_or-eq_default}
 use lib.Seq.{get_or-take, get_or-drop}
@@ -83,31 +84,21 @@ node-next : (s v d : ℕ) → suc (v * s + d) ≡ (v + 1 - 1) * s + d + 1
 node-next s v d = let e : v + 1 - 1 ≡ v = omega arith in rw e (omega arith)
 
 module _ (sh : Shape) (b : Bounds sh) (stripe : List ℕ) where
-  pub part-weight : (a i : ℕ) → a < rows sh → i < groups sh * group_size sh
-      → weight_at (group_size sh) (worth sh (i / group_size sh + 1)) (rows sh) (group_part sh stripe (i / group_size sh)) (i % group_size sh) a
-      ≡ weight sh (symbol sh stripe) a (suc i)
+  pub part-weight : (a v u : ℕ) → a < rows sh → v < groups sh → u < group_size sh
+      → weight_at (group_size sh) (worth sh (v + 1)) (rows sh) (group_part sh stripe v) u a
+      ≡ weight sh (symbol sh stripe) a (suc (v * group_size sh + u))
   unfolding weight_at digit with_digit node
-  part-weight a i ha hi =
+  part-weight a v u ha hv hu =
       ap₂ (weighed (compare u d))
-      (part-symbol sh stripe v u a hu ha ∙ ap (λ k. symbol sh stripe k a) (ap suc (div-add-mod' i (group_size sh))))
+      (part-symbol sh stripe v u a hu ha)
       (part-symbol sh stripe v d (with_digit sh a (v + 1) u) hd (set_below sh b a (v + 1) u (omega arith) (omega (arith, hv)) hu ha)
       ∙ ap (λ k. symbol sh stripe k (with_digit sh a (v + 1) u)) (node-next (group_size sh) v d))
-      ∙ sym (weigh_as_lem sh (symbol sh stripe) a i)
+      ∙ sym
+      (weigh_as_lem sh (symbol sh stripe) a (v * group_size sh + u)
+      ∙ ap₂ (λ p g. weigh_as sh (symbol sh stripe) a (suc (v * group_size sh + u)) p (g + 1)) (digits_mod v hu) (digits_div v hu))
     where
-      v : ℕ
-      v = i / group_size sh
-
-      u : ℕ
-      u = i % group_size sh
-
       d : ℕ
       d = digit sh a (v + 1)
-
-      hv : v < groups sh
-      hv = (div-lt_iff_lt-mul {k = group_size sh} {x = i} {y = groups sh} (size-some sh b)).1 hi
-
-      hu : u < group_size sh
-      hu = mod-lt i (size-some sh b)
 
       hd : d < group_size sh
       hd = mod-lt (a / worth sh (v + 1)) (size-some sh b)

@@ -1,37 +1,60 @@
--- How far the numbers go that the loop over all nodes works with, at node i + 1 of an accepted shape. In order: bounds that hold for every shape; the part of
--- the stripe with the columns of the node's group.
---   Room z i == every number fits, and the part lies in the stripe
-use Prim.Native.Nat.{ℕ, ◌+◌, ◌*◌, ◌/◌, ◌<◌, ◌≤◌, min}
-use native.Mathlib.Nat.{mul-le-mul, mul-le-mul_right, div-mul-le_self, div-le_self, le-min, le_of_lt}
+-- How far the numbers of the loop over all groups go, at group v + 1 of an accepted shape.
+--   Room sh z v   == every number fits, and the group's columns begin in the stripe
+--   Counts sh v w == w is what a 1 as the group's digit counts
+use mathlib.Core.Path.{◌≡◌}
+use Prim.Native.Nat.{ℕ, suc, ◌+◌, ◌*◌, ◌<◌, ◌≤◌}
+use native.Mathlib.Nat.{mul-le-mul, mul-le-mul_left, mul-le-mul_right}
 use native.Mathlib.Omega.{arith}
+use Rattle.rules.specs.declared.shapes.Shape.{Shape}
 use Rattle.rules.specs.declared.shapes.Sizes.{Sizes}
-use Rattle.rules.proofs.Measures.{Small}
-use Rattle.rules.proofs.Lengths.{group-within}
+use Rattle.rules.specs.Shape.{groups, worth}
+use Rattle.rules.specs.Stripe.{stripe_length}
+use Rattle.rules.specs.Promise.{SizesAre, WorthIs}
+use Rattle.rules.proofs.Accepted.{bounds}
+use Rattle.rules.proofs.RowsRead.{worth-some, worth-most}
+use Rattle.rules.proofs.Measures.{small}
+use Rattle.rules.proofs.Lengths.{stripe-is}
 use Rattle.columns.proofs.Kernels.{product_small}
 
-pub record Room (z : Sizes) (i : ℕ) : Type 0 where
-  pub node-most : i ≤ 16
-  pub group-most : i / z.s ≤ 16
-  pub first-most : i / z.s * z.s ≤ 16
-  pub start_most : i / z.s * z.s * z.l ≤ 4096
+pub record Room (sh : Shape) (z : Sizes) (v : ℕ) : Type 0 where
+  pub groups_most : v + 1 ≤ 16
+  pub nodes : v * z.s + z.s ≤ 16
+  pub start_most : v * z.s * z.l ≤ 4096
   pub length_most : z.s * z.l ≤ 1024
-  pub start_end : i / z.s * z.s * z.l ≤ min (i / z.s * z.s * z.l + z.s * z.l) (z.n * z.l)
+  pub start_end : v * z.s * z.l ≤ stripe_length sh
 
--- a group begins with a node that is there
-first-there : (i m s n : ℕ) → 0 < s → m * s < n + s → i < m * s → i / s * s < n
-first-there i m s n some few h =
-    omega (arith, few, group-within i m s some h)
-
-pub room : (z : Sizes) (i : ℕ) → Small z → i < z.m * z.s → Room z i
-room z i small h =
-    let first : i / z.s * z.s ≤ 16 = omega (arith, div-mul-le_self i z.s, h, small.nodes-most) in
+pub room : (sh : Shape) (z : Sizes) → SizesAre sh z → (v : ℕ) → v < z.m → Room sh z v
+room sh z h v below =
+    let few = small sh z h in
+    let ends : suc v * z.s ≤ z.m * z.s = mul-le-mul_right {m = suc v} {n = z.m} z.s below in
+    let nodes : v * z.s + z.s ≤ 16 = omega (arith, ends, few.nodes-most) in
+    let first : v * z.s ≤ 16 = omega (arith, nodes) in
     record {
-      node-most = omega (arith, h, small.nodes-most);
-      group-most = omega (arith, div-le_self i z.s, h, small.nodes-most);
-      first-most = first;
-      start_most = mul-le-mul first small.l-most;
-      length_most = product_small small.s-most small.l-most;
+      groups_most = omega (arith, nodes, few.s-some, mul-le-mul_left v few.s-some);
+      nodes = nodes;
+      start_most = mul-le-mul first few.l-most;
+      length_most = product_small few.s-most few.l-most;
+      -- a group begins with a node that is there
       start_end =
-          le-min (omega arith)
-          (mul-le-mul_right {m = i / z.s * z.s} {n = z.n} z.l (le_of_lt (first-there i z.m z.s z.n small.s-some small.phantoms_few h)));
+          omega (
+            arith,
+            mul-le-mul_right {m = v * z.s} {n = z.n} z.l (omega (arith, ends, few.phantoms_few)),
+            stripe-is sh z h,
+          );
+    }
+
+pub record Counts (sh : Shape) (v w : ℕ) : Type 0 where
+  pub is : w ≡ worth sh (v + 1)
+  pub some : 0 < w
+  pub most : w ≤ 256
+
+pub counts : (sh : Shape) (z : Sizes) → SizesAre sh z → (v w : ℕ) → v < z.m → WorthIs sh (v + 1) w → Counts sh v w
+counts sh z h v w below worth_is =
+    let b = bounds sh h.taken in
+    let most : v + 1 ≤ groups sh = omega (arith, below, h.m-is) in
+    let e : w ≡ worth sh (v + 1) = worth_is.inside h.taken (omega arith) most in
+    record {
+      is = e;
+      some = omega (arith, e, worth-some sh b (v + 1));
+      most = omega (arith, e, worth-most sh b (v + 1) most, b.l-most);
     }

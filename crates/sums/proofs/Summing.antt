@@ -3,30 +3,28 @@
 use mathlib.Core.Path.{◌≡◌, refl, sym, ap, ap₂, ◌∙◌, subst}
 use mathlib.Core.Bool.{true}
 use mathlib.Core.List.{List, ◌++◌}
-use mathlib.Core.Option.{none}
-use Prim.Native.Nat.{ℕ, suc, ◌+◌, ◌-◌, ◌*◌, ◌/◌, ◌%◌, ◌<◌, ◌≤◌, min}
-use native.Mathlib.Nat.{lt_trans}
+use Prim.Native.Nat.{ℕ, suc, ◌+◌, ◌-◌, ◌*◌, ◌<◌, ◌≤◌, min}
+use native.Mathlib.Nat.{lt_trans, add-suc}
 use native.Mathlib.Numerals.{add-one}
 use native.Mathlib.Omega.{arith}
-use lib.ListN.{length, get_or, take, drop, replicate}
+use lib.ListN.{length, get_or, take, drop, replicate, length-replicate, get_or-replicate}
 use lib.Seq.{take_at}
+use Rattle.std.specs.Prelude.{Option, None, Some}
 use Rattle.field.specs.Number.{add, mul, power}
 use Rattle.rules.specs.declared.shapes.Shape.{Shape}
 use Rattle.rules.specs.Shape.{group_size, groups, rows, worth}
 use Rattle.rules.specs.Point.{point_of}
-use Rattle.rules.specs.Stripe.{Symbols, symbol}
-use Rattle.rules.specs.Equation.{weight, sum_below, sum_to, equation, MeetsRow}
+use Rattle.rules.specs.Stripe.{Symbols, symbol, stripe_length}
+use Rattle.rules.specs.Equation.{weight, sum_below, sum_to, equation}
 use Rattle.rules.specs.declared.shapes.Sizes.{Sizes}
 use Rattle.rules.specs.Promise.{SizesAre}
 use Rattle.rules.proofs.Accepted.{Bounds, bounds}
 use Rattle.rules.proofs.Measures.{sizes_of, sizes_are}
 use Rattle.rules.proofs.Risings.{rising→listed, listed→rising}
-use Rattle.columns.specs.Promise.{Cleared}
 use Rattle.weights.specs.Promise.{Shared, weight_at}
-use Rattle.sums.specs.Kernel.{SumsAre, partial, FirstT, FoundIn}
-use Rattle.sums.specs.Answer.{refusal_of_test, FoundIs}
-use Rattle.sums.specs.declared.answers.Tested.{Tested}
-use Rattle.sums.specs.declared.answers.Tested.TheVariants as tests
+use Rattle.sums.specs.Kernel.{SumsAre, partial, FoundIn}
+use Rattle.sums.specs.Answer.{FoundAt}
+use Rattle.sums.specs.declared.answers.Failure.{Failure}
 use Rattle.columns.proofs.Kernels.{entry-within}
 use Rattle.columns.proofs.Parts.{zeros-length, zeros-byte}
 use Rattle.sums.proofs.Groups.{part-weight}
@@ -69,35 +67,35 @@ sums-zero sh C r l k is-r is-l few = record {
 }
 
 -- the same of a buffer that was cleared
-pub sums-clear : (sh : Shape) (C : Symbols) (before later : List ℕ) → length before ≡ sh.r * rows sh → Cleared before later → SumsAre sh C 0 later
-sums-clear sh C before later exact cleared = record {
-  all = cleared.same_length ∙ exact;
-  bytes = λ t a ht ha. cleared.bytes (t * rows sh + a) (omega (arith, exact, entry-within ht ha)) ∙ sym (partial-zero sh C a t);
+pub sums-clear : (sh : Shape) (C : Symbols) (k : ℕ) → k ≡ sh.r * rows sh → SumsAre sh C 0 (replicate k 0)
+sums-clear sh C k exact = record {
+  all = length-replicate {A = ℕ} k 0 ∙ exact;
+  bytes = λ t a ht ha. get_or-replicate k (t * rows sh + a) 0 0 (omega (arith, exact, entry-within ht ha)) ∙ sym (partial-zero sh C a t);
 }
 
--- One step of the loop over all nodes: the columns of the node's group are lent from a to e, w is what its digit counts, p its point.
+-- One step of the loop over the nodes of group v: the group's columns are lent from a to e, w is what its digit counts, p the point of the node at place u.
 abbrev NodeStep : Shape → List ℕ → Sizes → Type 0
-NodeStep sh stripe z = (i w p e : ℕ) (before later : List ℕ)
-    → i < z.m * z.s
-    → w ≡ worth sh (i / z.s + 1)
-    → p ≡ point_of sh (i + 1)
-    → e ≡ min (i / z.s * z.s * z.l + z.s * z.l) (z.n * z.l)
-    → SumsAre sh (symbol sh stripe) i before
-    → Shared z.r p z.l
-    (weight_at z.s w z.l (take (e - i / z.s * z.s * z.l) (drop (i / z.s * z.s * z.l) stripe)) (i % z.s))
-    before later
-    → SumsAre sh (symbol sh stripe) (i + 1) later
+NodeStep sh stripe z = (v u w p e : ℕ) (before later : List ℕ)
+    → v < z.m
+    → u < z.s
+    → w ≡ worth sh (v + 1)
+    → p ≡ point_of sh (v * z.s + u + 1)
+    → e ≡ min (v * z.s * z.l + z.s * z.l) (stripe_length sh)
+    → SumsAre sh (symbol sh stripe) (v * z.s + u) before
+    → Shared z.r p z.l (weight_at z.s w z.l (take (e - v * z.s * z.l) (drop (v * z.s * z.l) stripe)) u) before later
+    → SumsAre sh (symbol sh stripe) (v * z.s + (u + 1)) later
 
 module _ (sh : Shape) (b : Bounds sh) (stripe : List ℕ) where
   node-step-at : NodeStep sh stripe (sizes_of sh)
-  node-step-at i w p e before later inside is-worth is-point is-end was shared =
-      rw (add-one i) (sums-suc sh (symbol sh stripe) i p _ before later (is-point ∙ ap (point_of sh) (add-one i)) right was shared)
+  unfolding stripe_length
+  node-step-at v u w p e before later of_groups inside is-worth is-point is-end was shared =
+      rw (add-one u, add-suc (v * group_size sh) u)
+      (sums-suc sh (symbol sh stripe) (v * group_size sh + u) p _ before later (is-point ∙ ap (point_of sh) (add-one (v * group_size sh + u))) right was shared)
     where
       right : (a : ℕ) → a < rows sh
-          → weight_at (group_size sh) w (rows sh) (take (e - i / group_size sh * group_size sh * rows sh) (drop (i / group_size sh * group_size sh * rows sh) stripe))
-          (i % group_size sh) a
-          ≡ weight sh (symbol sh stripe) a (suc i)
-      right a ha = rw (is-worth, is-end) (part-weight sh b stripe a i ha inside)
+          → weight_at (group_size sh) w (rows sh) (take (e - v * group_size sh * rows sh) (drop (v * group_size sh * rows sh) stripe)) u a
+          ≡ weight sh (symbol sh stripe) a (suc (v * group_size sh + u))
+      right a ha = rw (is-worth, is-end) (part-weight sh b stripe a v u ha of_groups inside)
 
 pub node-step : (sh : Shape) (z : Sizes) → SizesAre sh z → (stripe : List ℕ) → NodeStep sh stripe z
 node-step sh z h stripe = subst (NodeStep sh stripe) (sym (sizes_are sh z h)) (node-step-at sh (bounds sh h.taken) stripe)
@@ -107,36 +105,26 @@ module _ (sh : Shape) (stripe sums : List ℕ) (all : SumsAre sh (symbol sh stri
   sum_is : (a t : ℕ) → a < rows sh → t < sh.r → get_or sums (t * rows sh + a) 0 ≡ equation sh (symbol sh stripe) a t
   sum_is a t ha ht = all.bytes t a ht ha ∙ partial-all sh (symbol sh stripe) a t
 
-  row-meets : (a : ℕ) → a < rows sh → FirstT sh.r (rows sh) sums a sh.r → MeetsRow sh (symbol sh stripe) a
-  row-meets a ha first t ht = sym (sum_is a t ha ht) ∙ first.lower t ht
-
-  pub found-is : (answer : Tested) → FoundIn sh.r (rows sh) sums answer → FoundIs sh stripe answer
-  found-is tests.Whole f = λ a ha. row-meets a ha (f a ha)
-  found-is (tests.Fails p) f = record {
+  pub found-is : (found : Option Failure) → FoundIn sh.r (rows sh) sums found → FoundAt sh stripe found
+  found-is None f = λ a ha t ht. sym (sum_is a t ha ht) ∙ f a t ha ht
+  found-is (Some p) f = record {
     row_listed = rising→listed (rows sh) (λ a. true) p.row f.row_below refl;
     t-below = f.t-below;
-    fails = λ e. f.first.fails f.t-below (sum_is p.row p.t f.row_below f.t-below ∙ e);
-    lower-rows = λ b hb hlt. row-meets b (listed→rising (rows sh) (λ a. true) b hb).0 (f.lower-rows b hlt);
-    lower-t = λ j hj. sym (sum_is p.row j f.row_below (lt_trans hj f.t-below)) ∙ f.first.lower j hj;
+    fails = λ e. f.fails (sum_is p.row p.t f.row_below f.t-below ∙ e);
+    lower-rows = λ b hb hlt t ht. sym (sum_is b t (listed→rising (rows sh) (λ a. true) b hb).0 ht) ∙ f.lower-rows b t hlt ht;
+    lower-t = λ j hj. sym (sum_is p.row j f.row_below (lt_trans hj f.t-below)) ∙ f.lower-t j hj;
   }
-  found-is (tests.Refused q) f = absurd f
 
 -- the same where the sums are the front of a longer list
-pub found_from : (sh : Shape) (stripe sums rest : List ℕ) (r l : ℕ) (answer : Tested)
+pub found_from : (sh : Shape) (stripe sums rest : List ℕ) (r l : ℕ) (found : Option Failure)
     → r ≡ sh.r
     → l ≡ rows sh
     → length sums ≡ r * l
     → SumsAre sh (symbol sh stripe) (groups sh * group_size sh) sums
-    → FoundIn r l (take (r * l) (sums ++ rest)) answer
-    → FoundIs sh stripe answer
-found_from sh stripe sums rest r l answer is-r is-l exact all found =
-    found-is sh stripe sums all answer
-    (subst (λ k. FoundIn sh.r k sums answer) is-l
-    (subst (λ k. FoundIn k l sums answer) is-r
-    (subst (λ xs. FoundIn r l xs answer) (take_at sums rest (r * l) exact) found)))
-
--- `lowest` refuses nothing
-pub found-accepted : (r l : ℕ) (sums : List ℕ) (answer : Tested) → FoundIn r l sums answer → refusal_of_test answer ≡ none
-found-accepted r l sums tests.Whole f = refl
-found-accepted r l sums (tests.Fails p) f = refl
-found-accepted r l sums (tests.Refused q) f = absurd f
+    → FoundIn r l (take (r * l) (sums ++ rest)) found
+    → FoundAt sh stripe found
+found_from sh stripe sums rest r l found is-r is-l exact all in_sums =
+    found-is sh stripe sums all found
+    (subst (λ k. FoundIn sh.r k sums found) is-l
+    (subst (λ k. FoundIn k l sums found) is-r
+    (subst (λ xs. FoundIn r l xs found) (take_at sums rest (r * l) exact) in_sums)))

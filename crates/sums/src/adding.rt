@@ -6,36 +6,31 @@ ghost use Rattle.rules.specs.Stripe.{symbol, stripe_length};
 ghost use Rattle.sums.specs.Kernel.{SumsAre};
 ghost use Rattle.sums.specs.Promise.{SumsMeet};
 
-use columns::{clear, lesser};
 use rules::{Measured, Shape, Sizes, measure, point, worth};
 use weights::add_node;
 use yebarg::Outcome;
 
-// Adds the shares of all nodes, 1 to m × s, phantoms too. The columns of each node's group are lent on, as the part of the stripe that starts at the group's
-// first column; the last group may be short.
+// Adds the shares of all nodes, group by group, phantoms too. The columns of a node's group are lent on, as the part of the stripe that starts at the group's
+// first column; that of the last group may be short.
+#[tactic(auto, using(crate::proofs::Room::room))]
 pub fn add_all(sums: &mut [u8], stripe: &[u8], shape: Shape, z: Sizes)
     requires sizes_are { SizesAre shape z }
     requires stripe_len { length stripe.now ≡ stripe_length shape }
     requires sums_are { SumsAre shape (symbol shape stripe.now) 0 sums.old }
     ensures { SumsAre shape (symbol shape stripe.now) (groups shape * group_size shape) sums.new }
 {
-    let s = z.s;
-    let l = z.l;
-    let r = z.r;
-    let n = z.n;
-    let nodes = z.m * s;
-    let end = n * l;
-    // Node and group count from 0 here.
-    let mut i = 0;
-    while i < nodes {
-        let v = i / s;
+    let Sizes { r, m, l, s, .. } = z;
+    // Group and place count from 0 here.
+    for v in 0..m {
         let start = v * s * l;
-        let stop = lesser(start + s * l, end);
+        let stop = (start + s * l).min(stripe.len());
+        let group = &stripe[start..stop];
         let w = worth(shape, v + 1);
-        let p = point(shape, i + 1);
-        // Not refused: the sizes are those of an accepted shape.
-        add_node(sums, &stripe[start..stop], s, w, l, i % s, p, r);
-        i = i + 1;
+        for u in 0..s {
+            let p = point(shape, v * s + u + 1);
+            // Not refused: the sizes are those of an accepted shape.
+            add_node(sums, group, s, w, l, u, p, r);
+        }
     }
 }
 
@@ -53,7 +48,7 @@ pub fn sums_of(shape: Shape, stripe: &[u8], sums: &mut [u8]) -> Outcome
     if sums.len() != end {
         return Outcome::Refused(2);
     }
-    clear(sums);
+    sums.fill(0);
     add_all(sums, stripe, shape, z);
     Outcome::Done
 }

@@ -1,7 +1,7 @@
 // What a test answers. specs/Answer.antt gives document 01's number and values for each case.
 
 // Where a stripe fails.
-#[derive(Clone, Copy)]
+#[derive(Clone, Copy, Debug, PartialEq, Eq)]
 pub struct Failure {
     // The lowest row that fails.
     pub row: usize,
@@ -10,7 +10,7 @@ pub struct Failure {
 }
 
 // The answer of a test.
-#[derive(Clone, Copy)]
+#[derive(Clone, Copy, Debug, PartialEq, Eq)]
 pub enum Tested {
     // The stripe is whole.
     Whole,

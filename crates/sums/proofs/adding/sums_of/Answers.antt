@@ -1,10 +1,11 @@
 -- `sums::sums_of` meets its contract: each test finds the refusal that it gives, and past all of them `add_all` adds the sums to a cleared buffer.
-use mathlib.Core.Path.{◌≡◌, refl, sym, ap₂, ◌∙◌}
+use mathlib.Core.Path.{◌≡◌, refl, sym, ap₂, ◌∙◌, subst}
 use mathlib.Core.List.{List}
 use mathlib.Core.Option.{some, none-ne-some}
 use Prim.Native.Nat.{ℕ, ◌*◌, ◌≤◌}
 use native.Mathlib.Nat.{mul-le-mul}
 use native.Mathlib.Omega.{arith}
+use lib.ListN.{length}
 use Rattle.rules.specs.declared.shapes.Shape.{Shape}
 use Rattle.rules.specs.declared.shapes.Sizes.{Sizes}
 use Rattle.rules.specs.Shape.{rows}
@@ -13,6 +14,7 @@ use Rattle.rules.specs.Promise.{SizesAre}
 use Rattle.rules.proofs.Measures.{Small, small, measured-sizes, measured-refused}
 use Rattle.columns.proofs.Kernels.{product_small}
 use Rattle.yebarg.specs.declared.answers.Outcome.TheVariants.{Refused}
+use Rattle.sums.specs.Kernel.{SumsAre}
 use Rattle.sums.specs.Refusal.{sums_refusal}
 use Rattle.sums.specs.Promise.{SumsMeet}
 use Rattle.rules.proofs.Lengths.{stripe-is}
@@ -65,7 +67,9 @@ add_all-requires c =
     record {
       sizes_are = sizes (goal.at.add_all-requires c).In-Accepted;
       stripe_len = c.if-stripe-z.false ∙ stripe-end (goal.at.add_all-requires c).In-Accepted;
-      sums_are = sums-clear c.args.shape _ c.args.sums.now _ (c.if-sums-end.false ∙ sums-end (goal.at.add_all-requires c).In-Accepted) c.clear.ensures;
+      sums_are =
+          subst (SumsAre c.args.shape _ 0) (sym (c.fill.ensures.after (λ _ same. same)))
+          (sums-clear c.args.shape _ (length c.args.sums.now) (c.if-sums-end.false ∙ sums-end (goal.at.add_all-requires c).In-Accepted));
     }
 
 pub returns : goal.returns

@@ -1,9 +1,13 @@
-use Prim.Native.Nat.{ℕ, ◌<◌, ◌-◌}
-use Rattle.sums.specs.Kernel.{FirstT}
+use mathlib.Core.Path.{◌≡◌}
+use Prim.Native.Nat.{ℕ, ◌<◌, ◌+◌, ◌*◌}
+use lib.ListN.{get_or}
 use Rattle.sums.proofs.testing.lowest.Given as goal
 
-abbrev pub invariant-loop-a : goal.invariant-loop-a
-invariant-loop-a l = (b : ℕ) → b < l.a → FirstT l.r l.l l.sums b l.r
+abbrev pub invariant-loop-row : goal.invariant-loop-row
+invariant-loop-row l = (b j : ℕ) → b < l.row → j < l.r → get_or l.sums (j * l.l + b) 0 ≡ 0
 
-abbrev pub decreases-loop-a : goal.decreases-loop-a
-decreases-loop-a l = l.l - l.a
+abbrev pub invariant-loop-t : goal.invariant-loop-t
+invariant-loop-t l = record {
+  rows : (b j : ℕ) → b < l.row → j < l.r → get_or l.sums (j * l.l + b) 0 ≡ 0;
+  ts : (j : ℕ) → j < l.t → get_or l.sums (j * l.l + l.row) 0 ≡ 0;
+}

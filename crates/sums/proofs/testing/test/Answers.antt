@@ -1,5 +1,6 @@
 -- `sums::test` meets its contract: `add_all` gives the sums of the equations, and `lowest` finds the first that isn't 0.
-use mathlib.Core.Path.{◌≡◌, sym, ap₂, ◌∙◌}
+use mathlib.Core.Path.{◌≡◌, sym, ap₂, ◌∙◌, subst}
+use mathlib.Core.Option.{none}
 use mathlib.Core.List.{List}
 use Prim.Native.Nat.{ℕ, ◌*◌, ◌≤◌}
 use native.Mathlib.Nat.{mul-le-mul}
@@ -13,9 +14,11 @@ use Rattle.columns.proofs.Kernels.{product_small}
 use Rattle.rules.proofs.Lengths.{stripe-is}
 use Rattle.columns.proofs.Parts.{zeros-length, front_fits, front_length}
 use Rattle.sums.proofs.Refusals.{test_shape, test-length, test-accepted}
-use Rattle.sums.proofs.Summing.{sums-zero, found_from, found-accepted}
+use Rattle.sums.specs.Answer.{FoundAt}
+use Rattle.sums.specs.Refusal.{test_refusal}
+use Rattle.sums.proofs.Summing.{sums-zero, found_from}
 use Rattle.sums.proofs.testing.test.Goals as goal
-use Rattle.sums.proofs.testing.test.Goals.{After-add_all, In-Accepted}
+use Rattle.sums.proofs.testing.test.Goals.{After-add_all, After-lowest, In-Accepted}
 
 abbrev size : In-Accepted → Sizes
 size c = c.in-Accepted.z
@@ -85,17 +88,31 @@ lowest-requires c =
       sums_len = front_length c.add_all.new.sums (drop (c.in-Accepted.z.r * c.in-Accepted.z.l) (replicate 1024 0)) (c.in-Accepted.z.r * c.in-Accepted.z.l) (sums-exact (goal.at.lowest-requires c).After-add_all);
     }
 
-pub returns : goal.returns
-returns c =
+-- nothing is refused
+taken : (c : After-add_all) → test_refusal c.args.shape c.args.stripe.now ≡ none
+taken c =
+    test-accepted c.args.shape c.args.stripe.now (sizes (goal.at.After-add_all c).In-Accepted).taken
+    (c.if-stripe-z.false ∙ stripe-end (goal.at.After-add_all c).In-Accepted)
+
+found : (c : After-lowest) → FoundAt c.args.shape c.args.stripe.now c.lowest.result
+found c =
+    found_from c.args.shape c.args.stripe.now c.add_all.new.sums (drop (c.in-Accepted.z.r * c.in-Accepted.z.l) (replicate 1024 0)) c.in-Accepted.z.r c.in-Accepted.z.l c.lowest.result
+    (sizes (goal.at.After-lowest c).In-Accepted).r-is
+    (sizes (goal.at.After-lowest c).In-Accepted).l-is
+    (sums-exact (goal.at.After-lowest c).After-add_all)
+    c.add_all.ensures
+    c.lowest.ensures
+
+pub returns-in-Some : goal.returns-in-Some
+returns-in-Some c =
     record {
-      answered =
-          found-accepted c.in-Accepted.z.r c.in-Accepted.z.l _ c.lowest.result c.lowest.ensures
-          ∙ sym (test-accepted c.args.shape c.args.stripe.now (sizes (goal.at.returns c).In-Accepted).taken (c.if-stripe-z.false ∙ stripe-end (goal.at.returns c).In-Accepted));
-      found =
-          found_from c.args.shape c.args.stripe.now c.add_all.new.sums (drop (c.in-Accepted.z.r * c.in-Accepted.z.l) (replicate 1024 0)) c.in-Accepted.z.r c.in-Accepted.z.l c.lowest.result
-          (sizes (goal.at.returns c).In-Accepted).r-is
-          (sizes (goal.at.returns c).In-Accepted).l-is
-          (sums-exact (goal.at.returns c).After-add_all)
-          c.add_all.ensures
-          c.lowest.ensures;
+      answered = sym (taken (goal.at.returns-in-Some c).After-add_all);
+      found = subst (FoundAt c.args.shape c.args.stripe.now) c.in-Some.is (found (goal.at.returns-in-Some c).After-lowest);
+    }
+
+pub returns-in-None : goal.returns-in-None
+returns-in-None c =
+    record {
+      answered = sym (taken (goal.at.returns-in-None c).After-add_all);
+      found = subst (FoundAt c.args.shape c.args.stripe.now) c.in-None.is (found (goal.at.returns-in-None c).After-lowest);
     }
