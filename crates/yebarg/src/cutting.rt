@@ -46,16 +46,14 @@ pub fn cut(
 }
 
 // The bytes of a column at the rows that have u as the digit that counts w.
+#[tactic(auto, unfolding(crate::specs::Kernel::row_at))]
 fn take_rows(column: &[u8], s: usize, w: usize, u: usize, fraction: &mut [u8])
     requires w_nonzero { (0 < w) × (u < s) }
     requires column_len_bound { (length column.now ≤ 256) × (length fraction.old * s ≡ length column.now) }
     requires w_len { length fraction.old % w ≡ 0 }
     ensures { Taken s w u column.now fraction.old fraction.new }
 {
-    let size = fraction.len();
-    let mut j = 0;
-    while j < size {
-        fraction[j] = column[j / w * (w * s) + u * w + j % w];
-        j = j + 1;
+    for (j, byte) in fraction.iter_mut().enumerate() {
+        *byte = column[j / w * (w * s) + u * w + j % w];
     }
 }
