@@ -1,20 +1,17 @@
--- Laws of what one node adds to the sums. In order: its weights shared out, one t more; its weights at the front of an array.
+-- Laws of what one node adds to the sums: its weights shared out, one t more.
 --   SharedTo p l weights t before later == the sums below t have their share of the weights, the others are as they were
-use mathlib.Core.Path.{◌≡◌, refl, ap, ap₂, ◌∙◌, subst}
-use mathlib.Core.List.{List, ◌++◌}
+use mathlib.Core.Path.{◌≡◌, refl, ap₂, ◌∙◌}
+use mathlib.Core.List.{List}
 use mathlib.Core.Logic.{◌⊎◌, inl, inr}
 use Prim.Native.Nat.{ℕ, ◌+◌, ◌-◌, ◌*◌, ◌<◌, ◌≤◌}
 use native.Mathlib.Nat.{eq-or-lt_of_le}
 use native.Mathlib.Omega.{arith}
 use lib.ListN.{length, get_or, take, drop}
-use lib.Seq.{take_at}
 use borrow.Rule.Slice.PartMut.{put_mid}
 use Rattle.field.specs.Number.{add, mul, power}
 use Rattle.columns.specs.Promise.{Multiplied}
 use Rattle.columns.proofs.Kernels.{entry-within}
 use Rattle.columns.proofs.Parts.{part_length, part-byte, put-before, put-inside, put-after, put-length}
-use Rattle.weights.specs.Promise.{Shared, weight_at}
-use Rattle.weights.specs.Kernel.{Weighed}
 
 -- the sums below t have their share of the weights, the others are as they were
 pub record SharedTo (p l : ℕ) (weights : ℕ → ℕ) (t : ℕ) (before later : List ℕ) : Type 0 where
@@ -50,25 +47,3 @@ module _ (p l t : ℕ) (column before xs : List ℕ) (fits : t * l + l ≤ lengt
           ∙ product.bytes a (omega (arith, ha, part_length (t * l) l xs fits))
           ∙ ap₂ (λ x z. add x (mul z (get_or column a 0))) (part-byte (t * l) l xs fits a ha ∙ was.kept (t * l + a) (omega arith)) is-power)
       go j a ha (inr h) = put-before (t * l) l xs fits ys same (j * l + a) (entry-within h ha) ∙ was.done j a h ha
-
--- the weights of a node, weighed into the front of an array and shared out
-pub weighed-shared : (s w l : ℕ) (group : List ℕ) (u : ℕ) (before after rest : List ℕ) (r p : ℕ) (x y : List ℕ)
-    → length before ≡ l
-    → Weighed s w group u before after
-    → Shared r p (length (take l (after ++ rest))) (λ a. get_or (take l (after ++ rest)) a 0) x y
-    → Shared r p l (weight_at s w l group u) x y
-weighed-shared s w l group u before after rest r p x y is-l weighed shared = record {
-  same_length = was.same_length;
-  bytes = λ t a ht ha. was.bytes t a ht ha ∙ ap (λ b. add (get_or x (t * l + a) 0) (mul (power p t) b)) (weight_is a ha);
-}
-  where
-    exact : length after ≡ l
-    exact = weighed.same_length ∙ is-l
-
-    was : Shared r p l (λ a. get_or after a 0) x y
-    was =
-        subst (λ k. Shared r p k (λ a. get_or after a 0) x y) exact
-        (subst (λ xs. Shared r p (length xs) (λ a. get_or xs a 0) x y) (take_at after rest l exact) shared)
-
-    weight_is : (a : ℕ) → a < l → get_or after a 0 ≡ weight_at s w l group u a
-    weight_is a ha = weighed.bytes a (omega (arith, ha, is-l)) ∙ ap (λ k. weight_at s w k group u a) is-l

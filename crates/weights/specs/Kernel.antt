@@ -1,11 +1,7 @@
--- What the private functions do, each byte said.
---   after x size moves == `further`: the number after x, and 0 after the last below `size`; x where it doesn't move
+-- What a private function does, each byte said.
 --   Weighed s w group u before later == `weigh`: later holds the weights, at all rows, of the node at place u of the group
-use Rattle.std.specs.Prelude.{◌≡◌, Bool, cond, List, ℕ, ◌+◌, ◌<◌, eqb, length, get_or}
+use Rattle.std.specs.Prelude.{◌≡◌, List, ℕ, ◌<◌, length, get_or}
 use Rattle.weights.specs.Promise.{weight_at}
-
-unfoldable pub after : ℕ → ℕ → Bool → ℕ
-after x size moves = cond moves (cond (eqb (x + 1) size) 0 (x + 1)) x
 
 pub record Weighed (s w : ℕ) (group : List ℕ) (u : ℕ) (before later : List ℕ) : Type 0 where
   pub same_length : length later ≡ length before

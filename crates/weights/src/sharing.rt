@@ -21,13 +21,11 @@ pub fn add_shares(sums: &mut [u8], weights: &[u8], p: u8, r: usize) -> bool
         return false;
     }
     let mut q = 1;
-    let mut t = 0;
-    while t < r {
+    for t in 0..r {
         let start = t * l;
         let stop = start + l;
         add_multiple(&mut sums[start..stop], weights, q);
         q = times(q, p);
-        t = t + 1;
     }
     true
 }

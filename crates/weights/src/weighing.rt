@@ -1,38 +1,22 @@
 // The weights of a group's nodes. Functions that have a `requires` can't be named from outside the crate. specs/Kernel.antt says every byte that `weigh` writes.
-ghost use Rattle.std.specs.Prelude.{◌≡◌, length};
-ghost use Prim.Native.Nat.{◌≤◌, ◌<◌, compare};
+ghost use Rattle.std.specs.Prelude.{◌≡◌, ◌≤◌, ◌<◌, length};
+ghost use Prim.Native.Nat.{compare};
 ghost use Rattle.rules.specs.Equation.{weighed};
-ghost use Rattle.weights.specs.Kernel.{Weighed, after};
+ghost use Rattle.weights.specs.Kernel.{Weighed};
 
 use columns::byte_at;
 use field::double;
+use std::cmp::Ordering;
 
 // The weight by its three cases: u is the node's place, d the row's digit. γ is 2.
 fn coupled(u: usize, d: usize, own: u8, other: u8) -> u8
     ensures { result ≡ weighed (compare u d) own other }
 {
-    if u == d {
-        return own;
+    match u.cmp(&d) {
+        Ordering::Less => double(own) ^ other,
+        Ordering::Equal => own,
+        Ordering::Greater => own ^ other,
     }
-    if d < u {
-        return own ^ other;
-    }
-    let scaled = double(own);
-    scaled ^ other
-}
-
-// The number after x, where it moves: 0 after the last below `size`.
-fn further(x: usize, size: usize, moves: bool) -> usize
-    requires { (x < size) × (size ≤ 256) }
-    ensures { result ≡ after x size moves }
-{
-    if !moves {
-        return x;
-    }
-    if x + 1 == size {
-        return 0;
-    }
-    x + 1
 }
 
 // The weights, at all rows, of the node at place u of a group of s nodes whose columns stand end to end in `group`; w is what a 1 as the
@@ -45,15 +29,20 @@ pub fn weigh(group: &[u8], s: usize, w: usize, u: usize, weights: &mut [u8])
     ensures { Weighed s w group.now u weights.old weights.new }
 {
     let l = weights.len();
-    let mut a = 0;
     let mut d = 0;
     let mut j = 0;
-    while a < l {
+    for (a, weight) in weights.iter_mut().enumerate() {
         let own = byte_at(group, u * l + a);
         let other = byte_at(group, d * l + (a - d * w + u * w));
-        weights[a] = coupled(u, d, own, other);
-        a = a + 1;
-        j = further(j, w, true);
-        d = further(d, s, j == 0);
+        *weight = coupled(u, d, own, other);
+        if j + 1 < w {
+            j += 1;
+        } else if d + 1 < s {
+            d += 1;
+            j = 0;
+        } else {
+            d = 0;
+            j = 0;
+        }
     }
 }

@@ -1,12 +1,12 @@
-use Prim.Native.Nat.{◌-◌}
-use lib.ListN.{length}
+use Rattle.std.proofs.Common.{◌≡◌, ℕ, ◌<◌, get_or}
 use Rattle.weights.specs.Promise.{weight_at}
-use Rattle.columns.proofs.Kernels.{Written}
 use Rattle.columns.proofs.Carrying.{Carried}
 use Rattle.weights.proofs.weighing.weigh.Given as goal
 
 abbrev pub invariant-loop-a : goal.invariant-loop-a
-invariant-loop-a l = Written (weight_at l.s l.w (length l.initial.weights) l.group l.u) l.a l.initial.weights l.weights × Carried l.s l.w l.a l.d l.j
-
-abbrev pub decreases-loop-a : goal.decreases-loop-a
-decreases-loop-a l = l.l - l.a
+invariant-loop-a l = record {
+  done : (k : ℕ) → k < l.a → get_or l.weights k 0 ≡ weight_at l.s l.w l.l l.group l.u k;
+  carried : Carried l.s l.w l.a l.d l.j;
+  digit_small : l.d < l.s;
+  past-small : l.j < l.w;
+}
