@@ -1,6 +1,6 @@
 -- Why the functions over the bytes of columns keep their promises, and what other crates use of it.
 --   Kernels  == a list that a loop writes byte by byte
---   Adding   == a loop that adds products to bytes
+--   Adding   == sums with products
 --   Parts    == a part of a buffer, lent on and given back
 --   Columns  == columns written one after the other
 --   Carrying == a digit carried along from row to row
