@@ -31,14 +31,12 @@ fn score_of(flags: [bool; 16], s: usize, m: usize, a: usize) -> u8
 {
     let mut sum = 0u8;
     let mut rest = a;
-    let mut v = 0;
-    while v < m {
+    for v in 0..m {
         let left = over(rest, s);
         if flags[v * s + (rest - left * s)] {
-            sum = sum + 1;
+            sum += 1;
         }
         rest = left;
-        v = v + 1;
     }
     sum
 }
@@ -51,13 +49,8 @@ pub fn scores_of(shape: Shape, flags: [bool; 16]) -> [u8; 256]
     let Measured::Accepted(z) = measure(shape) else {
         return scores;
     };
-    let s = z.s;
-    let m = z.m;
-    let l = z.l;
-    let mut a = 0;
-    while a < l {
-        scores[a] = score_of(flags, s, m, a);
-        a = a + 1;
+    for a in 0..z.l {
+        scores[a] = score_of(flags, z.s, z.m, a);
     }
     scores
 }
@@ -66,12 +59,5 @@ pub fn scores_of(shape: Shape, flags: [bool; 16]) -> [u8; 256]
 pub fn any_at(scores: &[u8], level: u8) -> bool
     ensures { AnyIs scores.now level result }
 {
-    let mut a = 0;
-    while a < scores.len() {
-        if scores[a] == level {
-            return true;
-        }
-        a = a + 1;
-    }
-    false
+    scores.contains(&level)
 }
