@@ -1,8 +1,7 @@
 -- What the function of the program that answers something promises.
 --   old           == what every buffer holds before it is lent to a call that is refused
 --   HoldsOld list b == `is_old`: b says whether the list is these bytes
---   Front k       == the first k of these bytes can be lent; the second part follows from the first, and is what lending them asks for
-use Rattle.std.specs.Prelude.{◌≡◌, Bool, true, List, [], ◌∷◌, ℕ, ◌≤◌, length, take}
+use Rattle.std.specs.Prelude.{◌≡◌, Bool, true, List, [], ◌∷◌, ℕ}
 
 abbrev pub old : List ℕ
 old = 91 ∷ 92 ∷ 93 ∷ 94 ∷ 95 ∷ 96 ∷ 97 ∷ 98 ∷ 99 ∷ 31 ∷ 32 ∷ 33 ∷ 34 ∷ []
@@ -10,6 +9,3 @@ old = 91 ∷ 92 ∷ 93 ∷ 94 ∷ 95 ∷ 96 ∷ 97 ∷ 98 ∷ 99 ∷ 31 ∷ 32 �
 pub record HoldsOld (list : List ℕ) (b : Bool) : Type 0 where
   pub right : b ≡ true → list ≡ old
   pub only : list ≡ old → b ≡ true
-
-abbrev pub Front : ℕ → Type 0
-Front k = (k ≤ 13) × (k ≡ length (take k old))
