@@ -1,4 +1,4 @@
--- Laws of what is added to running sums. In order: the shares of the nodes of a group, one node more; weights that are a multiple of a fraction; a fraction
+-- Laws of what is added to running sums. In order: γ; the shares of the nodes of a group, one node more; weights that are a multiple of a fraction; a fraction
 -- put among zeros, as the column of one place of a group.
 use mathlib.Core.Path.{◌≡◌, refl, sym, ap, ap₂, ◌∙◌, subst}
 use mathlib.Core.Bool.{cond}
@@ -17,16 +17,20 @@ use borrow.Rule.Slice.PartMut.{put_mid}
 use Rattle.field.specs.Number.{add, mul, power}
 use Rattle.field.proofs.Xor.{zero-add, add-zero, add_assoc}
 use Rattle.rules.specs.declared.shapes.Shape.{Shape}
-use Rattle.rules.specs.Point.{point_of}
+use Rattle.rules.specs.Point.{point_of, γ}
 use Rattle.rules.specs.Equation.{weighed, sum_below}
 use Rattle.rules.proofs.Ties.{sum_same}
-use Rattle.columns.specs.Promise.{Multiplied}
+use Rattle.columns.specs.Promise.{Multiplied, CopiedOver}
 use Rattle.columns.proofs.Kernels.{column-within, entry-within}
-use Rattle.columns.proofs.Parts.{zeros-length, zeros-byte, part_length, put-before, put-inside, put-after, put-length}
+use Rattle.columns.proofs.Parts.{zeros-length, zeros-byte, part_length, put-before, put-inside, put-after}
 use Rattle.weights.specs.Promise.{Shared, weight_at}
 use Rattle.fractions.specs.Kernel.{Gained, gain, lone, weight_of}
-use Rattle.yebarg.proofs.Lists.{laid-over-all}
+use Rattle.yebarg.proofs.Lists.{copied-whole}
 use Rattle.fractions.proofs.Positions.{lt_or_gt, with_part, set-within}
+
+pub gamma_is : γ ≡ 2
+unfolding γ
+gamma_is = refl
 
 gain-zero : (sh : Shape) (first : ℕ) (weights : ℕ → ℕ → ℕ) (t a : ℕ) → gain sh first 0 weights t a ≡ 0
 unfolding gain sum_below
@@ -93,9 +97,7 @@ part_ends s h k given inside room = omega (arith, column-within (length given) i
 
 module _ (s h k : ℕ) (given over : List ℕ) (inside : h < s) (room : length given * s ≤ k)
     (copied :
-    over
-    ≡ take (length given) given
-    ++ drop (length given) (take (h * length given + length given - h * length given) (drop (h * length given) (replicate {A = ℕ} k 0)))) where
+    CopiedOver given (take (h * length given + length given - h * length given) (drop (h * length given) (replicate {A = ℕ} k 0))) over) where
   abbrev placed : List ℕ
   placed = put_mid (h * length given) (h * length given + length given - h * length given) (replicate k 0) over
 
@@ -103,13 +105,10 @@ module _ (s h k : ℕ) (given over : List ℕ) (inside : h < s) (room : length g
   fits = omega (arith, part_ends s h k given inside room, length-replicate {A = ℕ} k 0)
 
   over-is : over ≡ given
-  over-is = copied ∙ laid-over-all given _ (part_length (h * length given) (length given) (replicate k 0) fits)
+  over-is = copied-whole (part_length (h * length given) (length given) (replicate k 0) fits) copied
 
   exact : length over ≡ length given
   exact = ap length over-is
-
-  pub placed-length : length placed ≡ k
-  placed-length = put-length (h * length given) (length given) (replicate k 0) fits over exact ∙ length-replicate {A = ℕ} k 0
 
   zero-at : (u a : ℕ) → u < s → a < length given → get_or (replicate {A = ℕ} k 0) (u * length given + a) 0 ≡ 0
   zero-at u a hu ha = get_or-replicate k (u * length given + a) 0 0 (omega (arith, entry-within hu ha, room))

@@ -219,25 +219,37 @@ worth-right c =
     c.worth-w.ensures.inside (sizes (goal.at.After-worth-w c).In-Accepted).taken (omega (arith, o.0, c.left_out.ensures)) (omega (arith, o.1, c.left_out.ensures))
     ∙ ap (worth c.args.shape) c.left_out.ensures
 
-pub overflow_mul-g : goal.overflow_mul-g
-overflow_mul-g c = record { fits = omega (arith, group-ends (goal.at.overflow_mul-g c).Else-helper-failed) }
+pub overflow_mul-group : goal.overflow_mul-group
+overflow_mul-group c = record { fits = omega (arith, group-ends (goal.at.overflow_mul-group c).Else-helper-failed) }
+
+pub invariant_of-group : goal.invariant_of-group
+invariant_of-group c =
+    let sh = c.args.shape in
+    let o = left-bounds (goal.at.invariant_of-group c).After-left_out in
+    let w-is = worth-right (goal.at.invariant_of-group c).After-worth-w in
+    let b = bound (goal.at.invariant_of-group c).In-Accepted in
+    let z = few (goal.at.invariant_of-group c).In-Accepted in
+    let d = left_out ((c.args.helper - 1) / c.in-Accepted.z.s) ((c.args.failed - 1) / c.in-Accepted.z.s) in
+    record {
+      nodes = group-ends (goal.at.invariant_of-group c).Else-helper-failed;
+      few = z.s-most;
+      worth_some = omega (arith, w-is, worth-some sh b d);
+      worth_most = omega (arith, w-is, worth-most sh b d (omega (arith, o.1)), b.l-most);
+      sums_few = z.r-most;
+    }
 
 pub add_lone-requires : goal.add_lone-requires
 add_lone-requires c =
     let sh = c.args.shape in
     let o = left-bounds (goal.at.add_lone-requires c).After-left_out in
     let w-is = worth-right (goal.at.add_lone-requires c).After-worth-w in
-    let w = worth sh (left_out ((c.args.helper - 1) / c.in-Accepted.z.s) ((c.args.failed - 1) / c.in-Accepted.z.s)) in record {
-      w_nonzero = (
-        omega (arith, w-is, worth-some sh (bound (goal.at.add_lone-requires c).In-Accepted) (left_out ((c.args.helper - 1) / c.in-Accepted.z.s) ((c.args.failed - 1) / c.in-Accepted.z.s))),
-        omega (arith, w-is, worth-most sh (bound (goal.at.add_lone-requires c).In-Accepted) (left_out ((c.args.helper - 1) / c.in-Accepted.z.s) ((c.args.failed - 1) / c.in-Accepted.z.s)) (omega (arith, o.1)), (bound (goal.at.add_lone-requires c).In-Accepted).l-most),
-      );
-      s_bound = ((few (goal.at.add_lone-requires c).In-Accepted).s-most, group-ends (goal.at.add_lone-requires c).Else-helper-failed);
-      r_bound = ((few (goal.at.add_lone-requires c).In-Accepted).r-most, mod-lt _ (few (goal.at.add_lone-requires c).In-Accepted).s-some);
-      s_len_bound = (
-        omega (arith, ap₂ (λ (x q : ℕ). x * q) (given-exact (goal.at.add_lone-requires c).Else-helper-failed) (sizes (goal.at.add_lone-requires c).In-Accepted).s-is, fraction-times sh (bound (goal.at.add_lone-requires c).In-Accepted), (bound (goal.at.add_lone-requires c).In-Accepted).l-most),
-        ap₂ (λ (x q : ℕ). x % q) (given-exact (goal.at.add_lone-requires c).Else-helper-failed) (ap₂ (λ (x q : ℕ). x * q) w-is (sizes (goal.at.add_lone-requires c).In-Accepted).s-is) ∙ fraction_periods sh (bound (goal.at.add_lone-requires c).In-Accepted) _ o.0 o.1,
-      );
+    let b = bound (goal.at.add_lone-requires c).In-Accepted in
+    let z = sizes (goal.at.add_lone-requires c).In-Accepted in
+    let exact = given-exact (goal.at.add_lone-requires c).Else-helper-failed in
+    record {
+      place = mod-lt _ (few (goal.at.add_lone-requires c).In-Accepted).s-some;
+      short = omega (arith, ap₂ (λ (x q : ℕ). x * q) exact z.s-is, fraction-times sh b, b.l-most);
+      periods = ap₂ (λ (x q : ℕ). x % q) exact (ap₂ (λ (x q : ℕ). x * q) w-is z.s-is) ∙ fraction_periods sh b _ o.0 o.1;
       sums_len = sums-exact (goal.at.add_lone-requires c).Else-helper-failed;
     }
 
