@@ -4,34 +4,21 @@ use mathlib.Core.List.{List, ◌++◌}
 use Prim.Native.Nat.{ℕ, ◌*◌}
 use native.Mathlib.Omega.{arith}
 use lib.ListN.{length, take, drop, replicate}
-use Rattle.columns.proofs.Parts.{zeros-length, front_fits, front_length}
+use Rattle.columns.proofs.Parts.{zeros-length, front_length}
 use Rattle.weights.specs.Promise.{Shareable}
 use Rattle.weights.proofs.Refusing.{shares_true}
 use Rattle.fractions.proofs.Gains.{multiple_shared}
 use Rattle.fractions.proofs.adding.add_mate.Goals as goal
 use Rattle.fractions.proofs.adding.add_mate.Goals.{After-add_multiple, Start}
 
-abbrev size : Start → ℕ
-size c = length c.args.fraction.now
-
-pub slice_bounds-add_multiple-end : goal.slice_bounds-add_multiple-end
-slice_bounds-add_multiple-end c = sym (zeros-length (length c.args.fraction.now) 256 c.requires.r_bound.1)
-
--- after the call the array has the multiple at its front, and the rest of the zeros
 abbrev weights : After-add_multiple → List ℕ
 weights c = c.add_multiple.new.to
 
 abbrev rest : After-add_multiple → List ℕ
 rest c = drop (length c.args.fraction.now) (replicate 256 0)
 
-weights-exact : (c : After-add_multiple) → length (weights c) ≡ (length c.args.fraction.now)
+weights-exact : (c : After-add_multiple) → length (weights c) ≡ length c.args.fraction.now
 weights-exact c = c.add_multiple.ensures.same_length ∙ zeros-length (length c.args.fraction.now) 256 c.requires.r_bound.1
-
-pub slice_bounds-weights-end-2 : goal.slice_bounds-weights-end-2
-slice_bounds-weights-end-2 c = front_fits c.add_multiple.new.to (drop (length c.args.fraction.now) (replicate 256 0)) (length c.args.fraction.now) (weights-exact (goal.at.slice_bounds-weights-end-2 c).After-add_multiple)
-
-pub slice_bounds-add_shares-end : goal.slice_bounds-add_shares-end
-slice_bounds-add_shares-end c = sym (front_length c.add_multiple.new.to (drop (length c.args.fraction.now) (replicate 256 0)) (length c.args.fraction.now) (weights-exact (goal.at.slice_bounds-add_shares-end c).After-add_multiple))
 
 -- the call isn't refused
 shareable : (c : After-add_multiple) → Shareable c.args.r (take (length c.args.fraction.now) (weights c ++ rest c)) c.args.sums.now
