@@ -12,12 +12,7 @@ fn points_after(shape: Shape, first: usize) -> [u8; 4]
     requires { first ≤ 16 }
     ensures { PointsAre shape first result }
 {
-    [
-        point(shape, first + 1),
-        point(shape, first + 2),
-        point(shape, first + 3),
-        point(shape, first + 4),
-    ]
+    std::array::from_fn(|u| point(shape, first + (u + 1)))
 }
 
 // Puts what is found into the column: s columns of `size` bytes, that of place u for the rows with u as the digit that counts w, in rising row order.
@@ -28,24 +23,21 @@ fn put_rows(found: &[u8], s: usize, w: usize, size: usize, column: &mut [u8])
     requires size_bound { s * size ≤ 256 }
     ensures { Put s w size found.now column.old column.new }
 {
-    let l = column.len();
-    // The digit of row a, and what stands above and below it. They are carried along, so that no row divides.
+    // The digit of the row, and what stands above and below it. They are carried along, so that no row divides.
     let mut above = 0usize;
     let mut d = 0;
     let mut j = 0;
-    let mut a = 0;
-    while a < l {
-        column[a] = found[d * size + (above * w + j)];
-        j = j + 1;
+    for byte in column.iter_mut() {
+        *byte = found[d * size + (above * w + j)];
+        j += 1;
         if j == w {
             j = 0;
-            d = d + 1;
+            d += 1;
             if d == s {
                 d = 0;
-                above = above + 1;
+                above += 1;
             }
         }
-        a = a + 1;
     }
 }
 

@@ -2,16 +2,15 @@
 -- up the row, so they are what divisions would find.
 use mathlib.Core.Path.{◌≡◌, sym, ap, ap₂, ◌∙◌}
 use Prim.Native.Nat.{ℕ, ◌<◌, ◌+◌, ◌*◌, ◌/◌, ◌%◌}
-use native.Mathlib.Nat.{div-div-eq-div-mul, le-mul_of_pos_right}
+use native.Mathlib.Nat.{div-div-eq-div-mul}
 use native.Mathlib.Omega.{arith}
 use lib.Arith.{digits_div, digits_mod}
 use lib.ListN.{length, get_or}
-use Rattle.columns.proofs.Kernels.{written_start, written_below, written_step, written-whole, entry-within}
+use Rattle.columns.proofs.Kernels.{written_step, entry-within}
 use Rattle.recover.specs.Kernel.{position_of}
 use Rattle.recover.proofs.Finding.{position_lt}
 use Rattle.recover.proofs.solving.put_rows.Goals as goal
 use Rattle.recover.proofs.solving.put_rows.Goals.{then-j-w+then-d-s, then-j-w+else-d-s, else-j-w}
-use Rattle.recover.proofs.solving.put_rows.Goals.{In-loop-a}
 use Rattle.recover.proofs.solving.put_rows.Invariants.{Split}
 
 module _ {s w a above d j : ℕ} (split : Split s w a above d j) where
@@ -55,83 +54,24 @@ module _ {s w a above d j : ℕ} (split : Split s w a above d j) where
     below-small = omega (arith, e);
   })
 
-pub loop-a-init : goal.loop-a-init
-loop-a-init c = (
-  omega arith,
-  written_start _ _,
-  record { whole = omega arith; digit-small = omega (arith, c.requires.w_nonzero.1); below-small = omega (arith, c.requires.w_nonzero.0) },
-)
-
-abbrev at : In-loop-a → ℕ
-at c = c.loop-a.a
-
-here : (c : In-loop-a) → at c < length c.args.column.now
-here c = omega (arith, c.loop-a-test.true, c.loop-a.invariant.0)
-
-split : (c : In-loop-a) → let x = c.loop-a in
-    Split c.args.s c.args.w x.a x.above x.d x.j
-split c = c.loop-a.invariant.2
-
 -- what is read is among what is found
-entry : (c : In-loop-a) → let x = c.loop-a in
-    x.d * c.args.size + (x.above * c.args.w + x.j) < c.args.s * c.args.size
-entry c =
-    entry-within (split c).digit-small
-    (omega (
-      arith,
-      position_is (split c),
-      position_lt c.args.s c.args.w c.args.size (at c) c.requires.w_nonzero.1 c.requires.w_nonzero.0 c.requires.s_bound.1 (omega (arith, here c, c.requires.found_len.1)),
-    ))
-
-pub overflow_mul-column : goal.overflow_mul-column
-overflow_mul-column c = record { fits = omega (arith, entry (goal.at.overflow_mul-column c).In-loop-a, c.requires.size_bound) }
-
-pub overflow_mul-column-in-loop-a : goal.overflow_mul-column-in-loop-a
-overflow_mul-column-in-loop-a c = record { fits = omega (arith, entry (goal.at.overflow_mul-column-in-loop-a c).In-loop-a, c.requires.size_bound) }
-
-pub overflow_add-column : goal.overflow_add-column
-overflow_add-column c = record { fits = omega (arith, entry (goal.at.overflow_add-column c).In-loop-a, c.requires.size_bound) }
-
-pub overflow_add-column-in-loop-a : goal.overflow_add-column-in-loop-a
-overflow_add-column-in-loop-a c = record { fits = omega (arith, entry (goal.at.overflow_add-column-in-loop-a c).In-loop-a, c.requires.size_bound) }
-
 pub bounds-found-d : goal.bounds-found-d
-bounds-found-d c = omega (arith, entry (goal.at.bounds-found-d c).In-loop-a, c.requires.found_len.0)
+bounds-found-d c =
+    let x = c.loop-byte in
+    let here : x.byte-index < c.args.s * c.args.size = omega arith in
+    let place : x.above * c.args.w + x.j < c.args.size =
+    omega (arith, position_is x.invariant.1, position_lt c.args.s c.args.w c.args.size x.byte-index c.requires.w_nonzero.1 c.requires.w_nonzero.0 c.requires.s_bound.1 here)
+    in
+    omega (arith, entry-within x.invariant.1.digit-small place, c.requires.found_len.0)
 
-pub bounds-column-a : goal.bounds-column-a
-bounds-column-a c = written_below c.loop-a.invariant.1 (here (goal.at.bounds-column-a c).In-loop-a)
-
-pub overflow_add-j : goal.overflow_add-j
-overflow_add-j c = record { fits = omega (arith, (split (goal.at.overflow_add-j c).In-loop-a).below-small, c.ranges.w.fits) }
-
-pub overflow_add-d : goal.overflow_add-d
-overflow_add-d c = record { fits = omega (arith, (split (goal.at.overflow_add-d c).In-loop-a).digit-small, c.ranges.s.fits) }
-
-pub overflow_add-above : goal.overflow_add-above
-overflow_add-above c =
-    record { fits = omega (arith, entry (goal.at.overflow_add-above c).In-loop-a, le-mul_of_pos_right c.loop-a.above c.requires.w_nonzero.0, c.requires.size_bound) }
-
-pub overflow_add-a : goal.overflow_add-a
-overflow_add-a c = record { fits = omega (arith, here (goal.at.overflow_add-a c).In-loop-a, c.requires.found_len.1, c.requires.size_bound) }
-
-pub loop-a-smaller : goal.loop-a-smaller
-loop-a-smaller c = omega (arith, here (goal.at.loop-a-smaller c).In-loop-a)
-
-pub loop-a-preserved : goal.loop-a-preserved
-loop-a-preserved c = (
-  omega (arith, here (goal.at.loop-a-preserved c).In-loop-a),
-  written_step c.loop-a.invariant.1 _ (here (goal.at.loop-a-preserved c).In-loop-a) (ap (λ i. get_or c.args.found.now i 0) (index_is (split (goal.at.loop-a-preserved c).In-loop-a) c.args.size)),
-  elim c.if-j-w.branch [
-    | then-j-w+then-d-s w ↦ split_around (split (goal.at.loop-a-preserved c).In-loop-a) w.if-j-w.true w.if-d-s.true w.above-is w.d-is w.j-is
-    | then-j-w+else-d-s w ↦ split-over (split (goal.at.loop-a-preserved c).In-loop-a) w.if-j-w.true w.if-d-s.false w.above-is w.d-is w.j-is
-    | else-j-w w ↦ split-within (split (goal.at.loop-a-preserved c).In-loop-a) w.if-j-w.false w.above-is w.d-is w.j-is
-  ],
-)
-
-pub shape_of-column : goal.shape_of-column
-shape_of-column c = c.loop-a.invariant.1.same_length
-
-pub returns : goal.returns
-returns c =
-    let w = c.loop-a.invariant.1 in
-    record { same_length = w.same_length; bytes = λ a h. written-whole w c.loop-a-test.false a h }
+pub loop-byte-preserved : goal.loop-byte-preserved
+loop-byte-preserved c =
+    let x = c.loop-byte in
+    let here : x.byte-index < length c.args.column.now = omega arith in (
+      written_step x.invariant.0 _ here (ap (λ i. get_or c.args.found.now i 0) (index_is x.invariant.1 c.args.size)),
+      elim c.if-j-w.branch [
+        | then-j-w+then-d-s w ↦ split_around x.invariant.1 w.if-j-w.true w.if-d-s.true w.above-is w.d-is w.j-is
+        | then-j-w+else-d-s w ↦ split-over x.invariant.1 w.if-j-w.true w.if-d-s.false w.above-is w.d-is w.j-is
+        | else-j-w w ↦ split-within x.invariant.1 w.if-j-w.false w.above-is w.d-is w.j-is
+      ],
+    )

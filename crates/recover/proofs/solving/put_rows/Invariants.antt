@@ -1,5 +1,5 @@
 use mathlib.Core.Path.{◌≡◌}
-use Prim.Native.Nat.{ℕ, ◌≤◌, ◌<◌, ◌+◌, ◌-◌, ◌*◌, ◌/◌, ◌%◌}
+use Prim.Native.Nat.{ℕ, ◌<◌, ◌+◌, ◌*◌, ◌/◌, ◌%◌}
 use lib.ListN.{get_or}
 use Rattle.columns.proofs.Kernels.{Written}
 use Rattle.recover.specs.Kernel.{position_of}
@@ -11,8 +11,5 @@ pub record Split (s w a above d j : ℕ) : Type 0 where
   pub digit-small : d < s
   pub below-small : j < w
 
-abbrev pub invariant-loop-a : goal.invariant-loop-a
-invariant-loop-a l = (l.a ≤ l.l) × Written (λ b. get_or l.found (b / l.w % l.s * l.size + position_of l.s l.w b) 0) l.a l.initial.column l.column × Split l.s l.w l.a l.above l.d l.j
-
-abbrev pub decreases-loop-a : goal.decreases-loop-a
-decreases-loop-a l = l.l - l.a
+abbrev pub invariant-loop-byte : goal.invariant-loop-byte
+invariant-loop-byte l = Written (λ b. get_or l.found (b / l.w % l.s * l.size + position_of l.s l.w b) 0) l.byte-index l.initial.column l.column × Split l.s l.w l.byte-index l.above l.d l.j
