@@ -20,7 +20,8 @@ use Rattle.rules.specs.Refusal.{Check, first_of, ◌given-when◌}
 use Rattle.yebarg.specs.declared.answers.Outcome.{Outcome}
 use Rattle.yebarg.specs.declared.answers.Outcome.TheVariants.{Done, Refused}
 use Rattle.yebarg.specs.Answer.{refusal}
-use Rattle.yebarg.specs.Refusal.{not_node, lay_refusal, read_back_refusal, cut_refusal}
+use Rattle.rules.specs.Refusal.{not_node}
+use Rattle.yebarg.specs.Refusal.{lay_refusal, read_back_refusal, cut_refusal}
 use Rattle.sums.specs.Refusal.{test_refusal}
 use Rattle.rebuild.specs.Refusal.{rebuild_refusal}
 use Rattle.fill.specs.Refusal.{fill_refusal, parity_refusal}

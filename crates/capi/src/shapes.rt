@@ -3,7 +3,7 @@ ghost use Rattle.std.specs.Prelude.{◌≡◌};
 ghost use Rattle.capi.specs.Word.{shape_of, code_of};
 ghost use Rattle.capi.specs.Promise.{ShapeIs, SizesMeet};
 
-use rules::{Measured, Shape, measure};
+use rules::{Shape, measure};
 use yebarg::Outcome;
 
 // The shape that a number says: n is its lowest byte and r the rest, so that bits above the lowest 16 make an r that isn't accepted.
@@ -48,7 +48,7 @@ pub extern "C" fn przytulisz_sizes(
 ) -> u32
     ensures { SizesMeet (shape_of shape) k.old m.old s.old l.old result k.new m.new s.new l.new }
 {
-    let Measured::Accepted(z) = measure(shape_of(shape)) else {
+    let Ok(z) = measure(shape_of(shape)) else {
         return 1;
     };
     *k = z.k;

@@ -5,7 +5,7 @@ ghost use Rattle.capi.specs.Promise.{TestCodeMeets};
 
 use crate::shapes::{code_of, shape_of};
 use fill::{fill, fill_parity};
-use rules::{Measured, measure};
+use rules::measure;
 use sums::{Tested, test};
 
 // Writes the parity columns.
@@ -48,10 +48,10 @@ pub extern "C" fn przytulisz_fill(shape: u64, lost: u32, stripe: &mut [u8]) -> u
     ensures { FillMeets (shape_of shape) lost stripe.old (outcome_of result) stripe.new }
 {
     if 65535 < lost {
-        let Measured::Accepted(z) = measure(shape_of(shape)) else {
+        let Ok(z) = measure(shape_of(shape)) else {
             return 1;
         };
-        if stripe.len() != z.n * z.l {
+        if stripe.len() != z.shape.n * z.l {
             return 2;
         }
         return 3;

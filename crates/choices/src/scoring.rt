@@ -5,7 +5,7 @@ ghost use Rattle.theory.specs.Free.{no_group};
 ghost use Rattle.corrections.specs.Correction.{chosen};
 ghost use Rattle.choices.specs.Promise.{ScoresMeet, AnyIs};
 
-use rules::{Measured, Shape, measure};
+use rules::{Shape, measure};
 
 // x divided by s. A division by a number that the code names is cheap, one by any number dear; a group has 2, 3 or 4 nodes.
 fn over(x: usize, s: usize) -> usize
@@ -46,7 +46,7 @@ pub fn scores_of(shape: Shape, flags: [bool; 16]) -> [u8; 256]
     ensures { ScoresMeet shape flags result }
 {
     let mut scores = [0u8; 256];
-    let Measured::Accepted(z) = measure(shape) else {
+    let Ok(z) = measure(shape) else {
         return scores;
     };
     for a in 0..z.l {

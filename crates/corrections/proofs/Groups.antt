@@ -39,7 +39,7 @@ pub record Room (z : Sizes) (i : ℕ) : Type 0 where
 group-columns : (i m s l : ℕ) → 0 < s → i < m * s → i / s * s * l + s * l ≤ m * s * l
 group-columns i m s l pos h = omega (arith, mul-le-mul_right {m = i / s * s + s} {n = m * s} l (group-within i m s pos h))
 
-pub room : (z : Sizes) (i : ℕ) → Small z → i < z.n → Room z i
+pub room : (z : Sizes) (i : ℕ) → Small z → i < z.shape.n → Room z i
 room z i small h =
     let node : i < z.m * z.s = omega (arith, h, small.nodes-least) in
     let first : i / z.s * z.s + z.s ≤ 16 = omega (arith, group-within i z.m z.s small.s-some node, small.nodes-most) in
@@ -102,7 +102,7 @@ corrected_in sh flags scores level short before i a =
 -- One turn with a chosen column: it is lent as a part, with the columns of its group in `short`, and comes back as ys.
 abbrev ColumnStep : Shape → List Bool → List ℕ → ℕ → List ℕ → List ℕ → Sizes → Type 0
 ColumnStep sh flags scores level short before z = (i w : ℕ) (xs ys : List ℕ)
-    → i < z.n
+    → i < z.shape.n
     → chosen flags i ≡ true
     → length short ≡ groups sh * group_size sh * rows sh
     → w ≡ worth sh (i / z.s + 1)
@@ -114,7 +114,7 @@ ColumnStep sh flags scores level short before z = (i w : ℕ) (xs ys : List ℕ)
     → ColumnsTo (corrected_in sh flags scores level short before) z.l (i + 1) before (put_mid (i * z.l) (i * z.l + z.l - i * z.l) xs ys)
 
 module _ (sh : Shape) (b : Bounds sh) (flags : List Bool) (scores : List ℕ) (level : ℕ) (short before : List ℕ) where
-  column-step-at : ColumnStep sh flags scores level short before (sizes_of sh)
+  column-step-at : ColumnStep sh flags scores level short before (sizes_of sh b)
   column-step-at i w xs ys inside into exact is-worth fits was turn =
       columns-put _ (rows sh) i before xs was fits ys (turn.same_length ∙ long) byte
     where
@@ -148,7 +148,7 @@ module _ (sh : Shape) (b : Bounds sh) (flags : List Bool) (scores : List ℕ) (l
 pub column-step : (sh : Shape) (z : Sizes) → SizesAre sh z → (flags : List Bool) (scores : List ℕ) (level : ℕ) (short before : List ℕ)
     → ColumnStep sh flags scores level short before z
 column-step sh z h flags scores level short before =
-    subst (ColumnStep sh flags scores level short before) (sym (sizes_are sh z h)) (column-step-at sh (bounds sh h.taken) flags scores level short before)
+    subst (ColumnStep sh flags scores level short before) (sym (sizes_are sh z h (bounds sh h.taken))) (column-step-at sh (bounds sh h.taken) flags scores level short before)
 
 -- one with another, which stays
 pub column-stays : (sh : Shape) (l : ℕ) → l ≡ rows sh → (flags : List Bool) (scores : List ℕ) (level : ℕ) (short before xs : List ℕ) (i : ℕ)

@@ -9,7 +9,7 @@ ghost use Rattle.corrections.specs.Kernel.{ColumnCorrected};
 
 use columns::byte_at;
 use field::{double, times};
-use rules::{Measured, Shape, Sizes, measure, worth};
+use rules::{Shape, Sizes, measure, worth};
 
 // What is added to the symbol of a lost node at place u, where the row's digit is d: `own` and `other` are what its weight and its mate's fall short by, and
 // `paired` says whether its mate is lost too. γ is 2; 142 is the inverse of γ, 244 that of γ + 1.
@@ -101,12 +101,12 @@ fn correct_chosen(shape: Shape, z: Sizes, asked: &Asked, short: &[u8], stripe: &
     requires sizes_are { SizesAre shape z }
     requires scores_enough { z.l ≤ length asked.now.scores.now }
     requires short_exact { length short.now ≡ z.m * z.s * z.l }
-    requires exact { length stripe.old ≡ z.n * z.l }
+    requires exact { length stripe.old ≡ z.shape.n * z.l }
     ensures { ColumnsCorrected shape asked.now.flags asked.now.scores.now asked.now.level short.now stripe.old stripe.new }
 {
     let s = z.s;
     let l = z.l;
-    for i in 0..z.n {
+    for i in 0..z.shape.n {
         if asked.flags[i] {
             let v = i / s;
             let first = v * s;
@@ -139,7 +139,7 @@ pub fn correct_columns(
 ) -> bool
     ensures { CorrectionsAre shape flags scores.now level short.now stripe.old result stripe.new }
 {
-    let Measured::Accepted(z) = measure(shape) else {
+    let Ok(z) = measure(shape) else {
         return false;
     };
     if scores.len() < z.l {
@@ -148,7 +148,7 @@ pub fn correct_columns(
     if short.len() != z.m * z.s * z.l {
         return false;
     }
-    if stripe.len() != z.n * z.l {
+    if stripe.len() != z.shape.n * z.l {
         return false;
     }
     let asked = Asked {

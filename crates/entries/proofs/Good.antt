@@ -14,7 +14,7 @@ use Rattle.rules.specs.Rising.{up_to}
 use Rattle.rules.proofs.Checks.{both, neither}
 use Rattle.rules.proofs.Risings.{rising-zero, rising-take}
 use Rattle.rules.proofs.Stripes.{tabulated, length-tabulated, get_or_tabulated}
-use Rattle.yebarg.specs.Refusal.{not_node}
+use Rattle.rules.specs.Refusal.{not_node}
 use Rattle.yebarg.proofs.Refusals.{a-node, is-node}
 use Rattle.entries.specs.Pack.{entry_at}
 use Rattle.entries.specs.Parts.{byte_at, shape_in, node_in, padded_in, node_before, nodes_in}

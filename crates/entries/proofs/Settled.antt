@@ -8,7 +8,7 @@ use mathlib.Core.List.{List, [], ◌∷◌}
 use Prim.Native.Nat.{ℕ}
 use native.Mathlib.Omega.{arith}
 use lib.ListN.{length}
-use Rattle.yebarg.specs.Refusal.{not_node}
+use Rattle.rules.specs.Refusal.{not_node}
 use Rattle.entries.specs.Pack.{columns_at, entry_at}
 use Rattle.entries.specs.Parts.{shape_in, node_in, padded_in, node_before}
 use Rattle.entries.specs.Refusal.{first_from, bad_entry, first_bad_entry}

@@ -13,7 +13,7 @@ use Rattle.std.specs.Prelude.{Bool, not, cond, ◌||◌, List, [], ◌∷◌, �
 use Rattle.std.proofs.Math.Option.{Option}
 use Rattle.rules.specs.Shape.{accepted}
 use Rattle.rules.specs.Refusal.{Check, first_of, ◌given-when◌}
-use Rattle.yebarg.specs.Refusal.{not_node}
+use Rattle.rules.specs.Refusal.{not_node}
 use Rattle.entries.specs.Pack.{header_length, columns_at, offset_of, total_of}
 use Rattle.entries.specs.Parts.{byte_at, shape_in, count_in, total_in, node_in, padded_in, offset_in, node_before}
 

@@ -10,7 +10,7 @@ ghost use Rattle.fill.specs.Promise.{FillMeets, ParityMeets};
 
 use levels::fill_levels;
 use lost::{copy_columns, flags_of, others_of, parity_flags};
-use rules::{Measured, Shape, Sizes, measure};
+use rules::{Shape, Sizes, measure};
 use sums::{Tested, test};
 use yebarg::Outcome;
 
@@ -20,7 +20,7 @@ fn stands(stripe: &[u8], shape: Shape, z: Sizes, count: usize) -> bool
     requires stripe_len { length stripe.now ≡ stripe_length shape }
     ensures { Standing shape count stripe.now result }
 {
-    if count == z.r {
+    if count == z.shape.r {
         return true;
     }
     let Tested::Whole = test(shape, stripe) else {
@@ -37,15 +37,15 @@ fn fill_one(stripe: &mut [u8], shape: Shape, z: Sizes, flags: [bool; 16], count:
     requires count_value { (count ≡ count_of shape.n (chosen flags)) × (count ≤ shape.r) × NoneFrom shape.n flags }
     ensures { FilledOne shape flags count stripe.old result stripe.new }
 {
-    let end = z.n * z.l;
+    let end = z.shape.n * z.l;
     let kept = others_of(flags);
     // No call refuses: the shape is accepted, the lengths are exact, at most r of the n nodes are lost.
     let mut scratch = [0u8; 4096];
-    copy_columns(&mut scratch[..end], stripe, kept, z.n, z.l);
+    copy_columns(&mut scratch[..end], stripe, kept, z.shape.n, z.l);
     fill_levels(shape, flags, &mut scratch[..end]);
     let accepted = stands(&scratch[..end], shape, z, count);
     if accepted {
-        copy_columns(stripe, &scratch[..end], flags, z.n, z.l);
+        copy_columns(stripe, &scratch[..end], flags, z.shape.n, z.l);
     }
     accepted
 }
@@ -54,17 +54,17 @@ fn fill_one(stripe: &mut [u8], shape: Shape, z: Sizes, flags: [bool; 16], count:
 pub fn fill(shape: Shape, lost: u16, stripe: &mut [u8]) -> Outcome
     ensures { FillMeets shape lost stripe.old result stripe.new }
 {
-    let Measured::Accepted(z) = measure(shape) else {
+    let Ok(z) = measure(shape) else {
         return Outcome::Refused(1);
     };
-    if stripe.len() != z.n * z.l {
+    if stripe.len() != z.shape.n * z.l {
         return Outcome::Refused(2);
     }
-    if (lost as usize) >> z.n != 0 {
+    if (lost as usize) >> z.shape.n != 0 {
         return Outcome::Refused(3);
     }
     let count = u16::count_ones(lost) as usize;
-    if z.r < count {
+    if z.shape.r < count {
         return Outcome::Refused(4);
     }
     if fill_one(stripe, shape, z, flags_of(lost), count) {
@@ -77,13 +77,13 @@ pub fn fill(shape: Shape, lost: u16, stripe: &mut [u8]) -> Outcome
 pub fn fill_parity(shape: Shape, stripe: &mut [u8]) -> Outcome
     ensures { ParityMeets shape stripe.old result stripe.new }
 {
-    let Measured::Accepted(z) = measure(shape) else {
+    let Ok(z) = measure(shape) else {
         return Outcome::Refused(1);
     };
-    if stripe.len() != z.n * z.l {
+    if stripe.len() != z.shape.n * z.l {
         return Outcome::Refused(2);
     }
     // With r columns lost it is always filled.
-    fill_one(stripe, shape, z, parity_flags(z.k, z.n), z.r);
+    fill_one(stripe, shape, z, parity_flags(z.k, z.shape.n), z.shape.r);
     Outcome::Done
 }

@@ -239,9 +239,9 @@ module _ (sh : Shape) (b : Bounds sh) (f i : ℕ) (given before later : List ℕ
 
   abbrev Mate : Sizes → Type 0
   Mate z = (p c : ℕ) → p ≡ point_of sh i → c ≡ factor_of ((i - 1) % z.s) ((f - 1) % z.s) → (i - 1) / z.s ≡ (f - 1) / z.s
-      → Shared z.r p (length given) (λ j. mul c (get_or given j 0)) before later → Added sh f i given before later
+      → Shared z.shape.r p (length given) (λ j. mul c (get_or given j 0)) before later → Added sh f i given before later
 
-  mate_at : Mate (sizes_of sh)
+  mate_at : Mate (sizes_of sh b)
   unfolding place
   mate_at p c is-point is-factor same shared =
       added_from (λ t j. mul (power p t) (mul c (get_or given j 0)))
@@ -252,10 +252,10 @@ module _ (sh : Shape) (b : Bounds sh) (f i : ℕ) (given before later : List ℕ
 
   abbrev Lone : Sizes → Type 0
   Lone z = (w : ℕ) → w ≡ worth sh (left_out ((i - 1) / z.s) ((f - 1) / z.s)) → ((i - 1) / z.s ≡ (f - 1) / z.s → ⊥)
-      → Gained z.r (length given) (gain sh ((i - 1) / z.s * z.s) z.s (weight_of z.s w (lone ((i - 1) % z.s) given))) before later
+      → Gained z.shape.r (length given) (gain sh ((i - 1) / z.s * z.s) z.s (weight_of z.s w (lone ((i - 1) % z.s) given))) before later
       → Added sh f i given before later
 
-  lone-at : Lone (sizes_of sh)
+  lone-at : Lone (sizes_of sh b)
   unfolding place
   lone-at w is-worth apart-groups gained =
       added_from _
@@ -268,7 +268,7 @@ module _ (sh : Shape) (b : Bounds sh) (f i : ℕ) (given before later : List ℕ
 
   module _ (z : Sizes) (sizes : SizesAre sh z) where
     pub added_mate : Mate z
-    added_mate = subst Mate (sym (sizes_are sh z sizes)) mate_at
+    added_mate = subst Mate (sym (sizes_are sh z sizes b)) mate_at
 
     pub added-lone : Lone z
-    added-lone = subst Lone (sym (sizes_are sh z sizes)) lone-at
+    added-lone = subst Lone (sym (sizes_are sh z sizes b)) lone-at

@@ -12,7 +12,7 @@ use Rattle.rules.specs.Shape.{accepted}
 use Rattle.rules.specs.Fraction.{fraction_length}
 use Rattle.rules.specs.Refusal.{first_of, ◌given-when◌, shape_refusal}
 use Rattle.rules.proofs.Accepted.{is-accepted, is-refused}
-use Rattle.yebarg.specs.Refusal.{not_node}
+use Rattle.rules.specs.Refusal.{not_node}
 use Rattle.fractions.specs.Refusal.{add_refusal}
 
 module _ (sh : Shape) (failed helper : ℕ) (given sums : List ℕ) where

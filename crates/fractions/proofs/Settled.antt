@@ -19,7 +19,7 @@ use Rattle.rules.proofs.Stripes.{by_columns}
 use Rattle.yebarg.specs.declared.answers.Outcome.{Outcome}
 use Rattle.yebarg.specs.declared.answers.Outcome.TheVariants.{Done, Refused}
 use Rattle.yebarg.proofs.Settled.{refusal-only}
-use Rattle.yebarg.specs.Refusal.{not_node}
+use Rattle.rules.specs.Refusal.{not_node}
 use Rattle.fractions.specs.Refusal.{add_refusal}
 use Rattle.fractions.specs.Promise.{AddMeets}
 use Rattle.fractions.proofs.Refusals.{add-taken}

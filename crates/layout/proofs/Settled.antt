@@ -11,7 +11,7 @@ use Rattle.rules.specs.Shape.{group_size, groups, rows, accepted}
 use Rattle.rules.specs.Rising.{rising}
 use Rattle.rules.specs.Lost.{is_lost}
 use Rattle.rules.specs.Bench.{shape}
-use Rattle.yebarg.specs.Refusal.{not_node}
+use Rattle.rules.specs.Refusal.{not_node}
 use Rattle.layout.specs.declared.answers.Found.{Found}
 use Rattle.layout.specs.declared.answers.Layout.{Layout}
 use Rattle.layout.specs.declared.answers.Layout.TheVariants.{Accepted, Refused}

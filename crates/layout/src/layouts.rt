@@ -4,7 +4,7 @@ ghost use Rattle.layout.specs.Promise.{LayoutMeets};
 use crate::answers::{Found, Layout};
 use entries::{ENTRY, HEADER, first_bad_entry, held_of};
 use offsets::{first_wrong_offset, wrong_length, wrong_total};
-use rules::{Measured, Shape, measure};
+use rules::{Shape, measure};
 
 // How long the largest pack is: a header, sixteen entries, sixteen columns of 256 bytes.
 pub const LARGEST_PACK: usize = 4232;
@@ -24,7 +24,7 @@ pub fn read_layout(pack: &[u8]) -> Layout
         return Layout::Refused(6);
     }
     let shape = Shape::new(n, r);
-    let Measured::Accepted(z) = measure(shape) else {
+    let Ok(z) = measure(shape) else {
         return Layout::Refused(1);
     };
     if n < p {

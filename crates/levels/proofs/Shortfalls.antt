@@ -262,7 +262,7 @@ module _ (sh : Shape) (flags : List Bool) (nodes points scores : List ℕ) (coun
     (are : PointsAre sh nodes points)
     (scored : ScoresAre (group_size sh) (groups sh) (rows sh) flags scores)
     (beyond : NoneFrom sh.n flags) where
-  level_from_at : Bounds sh → LevelFrom sh flags nodes points scores count level before later (sizes_of sh)
+  level_from_at : (b : Bounds sh) → LevelFrom sh flags nodes points scores count level before later (sizes_of sh b)
   level_from_at b sums sums-rest found found-rest start short short-rest summed found-exact solved short-exact placed corrected =
       level_tie sh b flags scores level short before later
       (subst (λ xs. ColumnsCorrected sh flags scores level xs before later) (take_at short short-rest _ short-exact) corrected) beyond count scored
@@ -275,4 +275,4 @@ module _ (sh : Shape) (flags : List Bool) (nodes points scores : List ℕ) (coun
 
   pub level_from : (z : Sizes) → SizesAre sh z → LevelFrom sh flags nodes points scores count level before later z
   level_from z h =
-      subst (LevelFrom sh flags nodes points scores count level before later) (sym (sizes_are sh z h)) (level_from_at (bounds sh h.taken))
+      subst (LevelFrom sh flags nodes points scores count level before later) (sym (sizes_are sh z h (bounds sh h.taken))) (level_from_at (bounds sh h.taken))

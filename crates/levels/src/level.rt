@@ -12,7 +12,7 @@ ghost use Rattle.levels.specs.Kernel.{LevelCorrected};
 use crate::placing::place_columns;
 use choices::{any_at, count_of, listed, points_of, scores_of};
 use corrections::correct_columns;
-use rules::{Measured, Shape, Sizes, measure};
+use rules::{Shape, Sizes, measure};
 use solver::unknowns;
 use sums::sums_of;
 
@@ -35,7 +35,7 @@ fn correct_level(
     requires listed_are { ListedAre shape.n flags nodes × PointsAre shape nodes points × ScoresAre (group_size shape) (groups shape) (rows shape) flags scores }
     ensures { LevelCorrected shape flags count level stripe.old stripe.new }
 {
-    let all = z.r * z.l;
+    let all = z.shape.r * z.l;
     let end = count * z.l;
     // None of the calls refuses: the shape is accepted, the lengths are exact, and the points differ.
     let mut sums = [0u8; 1024];
@@ -56,7 +56,7 @@ fn correct_levels(stripe: &mut [u8], shape: Shape, z: Sizes, flags: [bool; 16], 
     requires count_value { (count ≡ count_of shape.n (chosen flags)) × (count ≤ shape.r) × NoneFrom shape.n flags }
     ensures { LevelsCorrected shape flags count stripe.old stripe.new }
 {
-    let nodes = listed(flags, z.n);
+    let nodes = listed(flags, z.shape.n);
     let points = points_of(shape, nodes);
     let scores = scores_of(shape, flags);
     let mut level = 0u8;
@@ -73,17 +73,17 @@ fn correct_levels(stripe: &mut [u8], shape: Shape, z: Sizes, flags: [bool; 16], 
 pub fn fill_levels(shape: Shape, flags: [bool; 16], stripe: &mut [u8]) -> bool
     ensures { LevelsAre shape flags stripe.old result stripe.new }
 {
-    let Measured::Accepted(z) = measure(shape) else {
+    let Ok(z) = measure(shape) else {
         return false;
     };
-    if stripe.len() != z.n * z.l {
+    if stripe.len() != z.shape.n * z.l {
         return false;
     }
-    let count = count_of(flags, z.n);
+    let count = count_of(flags, z.shape.n);
     if count < count_of(flags, 16) {
         return false;
     }
-    if z.r < count {
+    if z.shape.r < count {
         return false;
     }
     correct_levels(stripe, shape, z, flags, count);

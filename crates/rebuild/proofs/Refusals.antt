@@ -11,7 +11,7 @@ use Rattle.rules.specs.Shape.{rows}
 use Rattle.rules.specs.Fraction.{fraction_length}
 use Rattle.rules.specs.Refusal.{shape_refusal}
 use Rattle.rules.proofs.Accepted.{is-accepted, is-refused}
-use Rattle.yebarg.specs.Refusal.{not_node}
+use Rattle.rules.specs.Refusal.{not_node}
 use Rattle.rebuild.specs.Refusal.{rebuild_refusal}
 
 module _ (sh : Shape) (failed : ℕ) (fractions col : List ℕ) where

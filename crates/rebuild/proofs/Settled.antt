@@ -19,7 +19,7 @@ use Rattle.rules.proofs.Rebuildings.{cut-rebuilt}
 use Rattle.rules.proofs.Benches.{parity-a, parity-b, rebuilt-h, rebuilt-i, bench-shape}
 use Rattle.yebarg.specs.declared.answers.Outcome.{Outcome}
 use Rattle.yebarg.specs.declared.answers.Outcome.TheVariants.{Done, Refused}
-use Rattle.yebarg.specs.Refusal.{not_node}
+use Rattle.rules.specs.Refusal.{not_node}
 use Rattle.yebarg.proofs.Settled.{refusal-only}
 use Rattle.rebuild.specs.Refusal.{rebuild_refusal}
 use Rattle.rebuild.specs.Promise.{RebuildMeets}

@@ -17,7 +17,7 @@ use Rattle.rules.proofs.Checks.{not_other, none-given}
 use Rattle.rules.proofs.Accepted.{bounds, is-accepted, not_refused}
 use Rattle.rules.proofs.Rebuildings.{rebuilt-only}
 use Rattle.yebarg.specs.declared.answers.Outcome.{Outcome}
-use Rattle.yebarg.specs.Refusal.{not_node}
+use Rattle.rules.specs.Refusal.{not_node}
 use Rattle.yebarg.proofs.Refusals.{a-node, is-node}
 use Rattle.rebuild.specs.Refusal.{rebuild_refusal}
 use Rattle.rebuild.specs.Promise.{RebuildMeets}

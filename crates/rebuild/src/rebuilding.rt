@@ -3,7 +3,7 @@ ghost use Rattle.rebuild.specs.Promise.{RebuildMeets};
 
 use crate::summing::add_helpers;
 use recover::solve_rows;
-use rules::{Measured, Shape, measure};
+use rules::{Shape, measure};
 use yebarg::Outcome;
 
 // Rebuilds the failed node's column from the fractions of the n − 1 others, end to end in rising node order: the one column that, with them, meets the
@@ -11,11 +11,11 @@ use yebarg::Outcome;
 pub fn rebuild(shape: Shape, failed: usize, fractions: &[u8], column: &mut [u8]) -> Outcome
     ensures { RebuildMeets shape failed fractions.now column.old result column.new }
 {
-    let Measured::Accepted(z) = measure(shape) else {
+    let Ok(z) = measure(shape) else {
         return Outcome::Refused(1);
     };
     let size = z.l / z.s;
-    if fractions.len() != (z.n - 1) * size {
+    if fractions.len() != (z.shape.n - 1) * size {
         return Outcome::Refused(2);
     }
     if column.len() != z.l {
@@ -24,13 +24,13 @@ pub fn rebuild(shape: Shape, failed: usize, fractions: &[u8], column: &mut [u8])
     if failed < 1 {
         return Outcome::Refused(3);
     }
-    if z.n < failed {
+    if z.shape.n < failed {
         return Outcome::Refused(3);
     }
-    let end = z.r * size;
+    let end = z.shape.r * size;
     // r sums for each row read; s being r, as many as a column has bytes.
     let mut sums = [0u8; 256];
-    add_helpers(&mut sums[..end], fractions, shape, failed, z.n, size);
+    add_helpers(&mut sums[..end], fractions, shape, failed, z.shape.n, size);
     // It can be solved: the shape is accepted, the lengths are exact, and there is such a node.
     solve_rows(&sums[..end], shape, failed, column);
     Outcome::Done

@@ -187,7 +187,7 @@ module _ (sh : Shape) (b : Bounds sh) (f : ℕ) (first : 1 ≤ f) (last : f ≤ 
       solved = λ t j ht hj. put-spread points are sums found before later (unknowns.solved answer_yes) put long t j ht hj;
     }
 
-  solving-at : Solving (sizes_of sh)
+  solving-at : Solving (sizes_of sh b)
   unfolding fraction_length group_size
   solving-at points sums zeros found rest before later answer w are sums-long zeros-long unknowns is-worth long put =
       rows-solved points sums zeros found answer are sums-long zeros-long unknowns before later
@@ -197,7 +197,7 @@ module _ (sh : Shape) (b : Bounds sh) (f : ℕ) (first : 1 ≤ f) (last : f ≤ 
       long
 
   pub solving : (z : Sizes) → SizesAre sh z → Solving z
-  solving z h = subst Solving (sym (sizes_are sh z h)) solving-at
+  solving z h = subst Solving (sym (sizes_are sh z h b)) solving-at
 
 -- a row is the one with its digit at its position
 row_back : (s w a : ℕ) → 0 < s → 0 < w → row_at s w (a / w % s) (position_of s w a) ≡ a

@@ -4,7 +4,7 @@ ghost use Rattle.std.specs.Prelude.{◌≡◌, ◌≤◌, ◌<◌, ◌*◌, ◌%
 ghost use Rattle.recover.specs.Kernel.{PointsAre, Put};
 ghost use Rattle.recover.specs.Promise.{SolveRowsIs};
 
-use rules::{Measured, Shape, measure, point, worth};
+use rules::{Shape, measure, point, worth};
 use solver::unknowns;
 
 // The points of the four nodes after the first `first`; 0 past node 16.
@@ -46,7 +46,7 @@ fn put_rows(found: &[u8], s: usize, w: usize, size: usize, column: &mut [u8])
 pub fn solve_rows(sums: &[u8], shape: Shape, failed: usize, column: &mut [u8]) -> bool
     ensures { SolveRowsIs shape failed sums.now column.old result column.new }
 {
-    let Measured::Accepted(z) = measure(shape) else {
+    let Ok(z) = measure(shape) else {
         return false;
     };
     let s = z.s;
@@ -61,7 +61,7 @@ pub fn solve_rows(sums: &[u8], shape: Shape, failed: usize, column: &mut [u8]) -
     if failed < 1 {
         return false;
     }
-    if z.n < failed {
+    if z.shape.n < failed {
         return false;
     }
     let v = (failed - 1) / s;

@@ -11,10 +11,10 @@ use Rattle.rules.specs.Stripe.{stripe_length, data_length}
 use Rattle.rules.specs.Fraction.{fraction_length}
 use Rattle.rules.specs.Promise.{SizesAre, WorthIs}
 use Rattle.rules.proofs.Accepted.{Bounds, bounds}
-use Rattle.rules.proofs.Measures.{small, sizes_are}
+use Rattle.rules.proofs.Measures.{small}
 use Rattle.rules.proofs.RowsRead.{worth-some, worth-most}
 
-pub stripe-is : (sh : Shape) (z : Sizes) → SizesAre sh z → z.n * z.l ≡ stripe_length sh
+pub stripe-is : (sh : Shape) (z : Sizes) → SizesAre sh z → z.shape.n * z.l ≡ stripe_length sh
 unfolding stripe_length
 stripe-is sh z h = ap₂ (λ (x y : ℕ). x * y) h.n-is h.l-is
 
@@ -27,12 +27,12 @@ unfolding fraction_length
 fraction-is sh z h = ap₂ (λ (x y : ℕ). x / y) h.l-is h.s-is
 
 -- r sums for each row read
-pub sums_are : (sh : Shape) (z : Sizes) → SizesAre sh z → z.r * (z.l / z.s) ≡ sh.r * fraction_length sh
+pub sums_are : (sh : Shape) (z : Sizes) → SizesAre sh z → z.shape.r * (z.l / z.s) ≡ sh.r * fraction_length sh
 sums_are sh z h = ap₂ (λ (x y : ℕ). x * y) h.r-is (fraction-is sh z h)
 
 -- phantoms too
 pub all-nodes : (sh : Shape) (z : Sizes) → SizesAre sh z → z.m * z.s * z.l ≡ groups sh * group_size sh * rows sh
-all-nodes sh z h = ap (λ (y : Sizes). y.m * y.s * y.l) (sizes_are sh z h)
+all-nodes sh z h = ap₂ (λ (x y : ℕ). x * y) (ap₂ (λ (x y : ℕ). x * y) h.m-is h.s-is) h.l-is
 
 pub stripe-most : (sh : Shape) → Bounds sh → stripe_length sh ≤ 4096
 unfolding stripe_length

@@ -1,6 +1,8 @@
 -- Why the promises hold, and what the rules are.
 --   Checks    == the first refusal that applies
+--   Numbers   == a refusal and its number say the same
 --   Accepted  == what acceptance says of a shape; bounds of every accepted shape
+--   Sizing    == what `measure` finds of a shape within the limits
 --   Measures  == what the answer of `measure` tells
 --   Risings   == lists of the numbers that pass a test
 --   Pieces    == lists laid end to end
@@ -19,7 +21,9 @@
 --   Benches   == the bench stripes
 --   Settled   == each promise settles its result, and rules wrong answers out
 pub mod Checks
+pub mod Numbers
 pub mod Accepted
+mod Sizing
 pub mod Measures
 pub mod Risings
 pub mod Pieces

@@ -10,14 +10,16 @@ use native.Mathlib.Decide.{dec_le}
 use Rattle.field.specs.Number.{modulus, add, double, by_bits, mul, power}
 use Rattle.rules.specs.declared.shapes.Shape.{Shape}
 use Rattle.rules.specs.declared.shapes.Sizes.{Sizes}
-use Rattle.rules.specs.declared.shapes.Measured.{Measured}
-use Rattle.rules.specs.declared.shapes.Measured.TheVariants.{Accepted, Refused}
+use Rattle.std.specs.Prelude.{Result, Ok, Err}
+use Rattle.rules.specs.declared.refusals.Refusal.{Refusal}
+use Rattle.rules.specs.declared.refusals.Refusal.TheVariants as refusal
 use Rattle.rules.specs.Shape.{group_size, groups, rows, accepted, worth}
 use Rattle.rules.specs.Point.{point_of}
-use Rattle.rules.specs.Refusal.{shape_refusal}
+use Rattle.rules.specs.Refusal.{shape_refusal, number_of, refusal_of}
+use Rattle.rules.proofs.Numbers.{number_of-injective}
 use Rattle.rules.specs.Bench.{shape}
 use Rattle.rules.proofs.Accepted.{refusal-cases}
-use Rattle.rules.proofs.Measures.{sizes_are}
+use Rattle.rules.proofs.Measures.{sizes_same}
 use Rattle.rules.specs.Promise.{NewIs, MeasuredIs, WorthIs, PointIs}
 
 pub new_settled : (n r : ℕ) (x y : Shape) → NewIs n r x → NewIs n r y → x ≡ y
@@ -30,29 +32,31 @@ new_swaps p = let e : ◌≡◌ {A = ℕ} 2 3 = p.nodes in omega arith
 pub new-corrects : NewIs 16 3 (shape 15 3) → ⊥
 new-corrects p = let e : ◌≡◌ {A = ℕ} 15 16 = p.nodes in omega arith
 
-pub measure_settled : (sh : Shape) (x y : Measured) → MeasuredIs sh x → MeasuredIs sh y → x ≡ y
-measure_settled sh (Accepted x) (Accepted y) p q = ap Accepted (sizes_are sh x p ∙ sym (sizes_are sh y q))
-measure_settled sh (Accepted x) (Refused b) p q = absurd (none-ne-some b (sym p.taken ∙ q))
-measure_settled sh (Refused a) (Accepted y) p q = absurd (none-ne-some a (sym q.taken ∙ p))
-measure_settled sh (Refused a) (Refused b) p q = ap Refused (cc)
+pub measure_settled : (sh : Shape) (x y : Result Sizes Refusal) → MeasuredIs sh x → MeasuredIs sh y → x ≡ y
+measure_settled sh (Ok x) (Ok y) p q = ap Ok (sizes_same x y (p ∙ sym q))
+measure_settled sh (Ok x) (Err b) p q =
+    absurd (none-ne-some (number_of b) (sym x.of_shape.taken ∙ ap shape_refusal p ∙ q))
+measure_settled sh (Err a) (Ok y) p q =
+    absurd (none-ne-some (number_of a) (sym y.of_shape.taken ∙ ap shape_refusal q ∙ p))
+measure_settled sh (Err a) (Err b) p q = let n : number_of a ≡ number_of b = cc in ap Err (number_of-injective a b n)
 
 -- refuses everything
-pub measure_refuses : (q : ℕ) → MeasuredIs (shape 3 2) (Refused q) → ⊥
+pub measure_refuses : (q : Refusal) → MeasuredIs (shape 3 2) (Err q) → ⊥
 unfolding shape_refusal accepted rows groups group_size
-measure_refuses q p = none-ne-some q p
+measure_refuses q p = none-ne-some (number_of q) p
 
 -- accepts 729 rows
-pub measure-accepts : (z : Sizes) → MeasuredIs (shape 16 3) (Accepted z) → ⊥
+pub measure-accepts : (z : Sizes) → MeasuredIs (shape 16 3) (Ok z) → ⊥
 unfolding shape_refusal accepted rows groups group_size
-measure-accepts z p = some-ne-none 1 p.taken
+measure-accepts z p = some-ne-none 1 (sym (ap shape_refusal p) ∙ z.of_shape.taken)
 
 -- one wrong number among the sizes: l is 4
-pub measure_wrong_rows : MeasuredIs (shape 3 2) (Accepted (record { n = 3; r = 2; k = 1; m = 2; l = 3; s = 2 })) → ⊥
+pub measure_wrong_rows : (z : Sizes) → z.l ≡ 3 → MeasuredIs (shape 3 2) (Ok z) → ⊥
 unfolding rows groups group_size
-measure_wrong_rows p = let e : ◌≡◌ {A = ℕ} 3 4 = p.l-is in omega arith
+measure_wrong_rows z three p = let e : ◌≡◌ {A = ℕ} 3 4 = sym three ∙ z.of_shape.l-is ∙ ap rows p in omega arith
 
 -- no other refusal number
-pub measure-numbers : MeasuredIs (shape 16 3) (Refused 2) → ⊥
+pub measure-numbers : MeasuredIs (shape 16 3) (Err refusal.BadLength) → ⊥
 unfolding shape_refusal accepted rows groups group_size
 measure-numbers p = let e : ◌≡◌ {A = ℕ} 1 2 = cc in omega arith
 

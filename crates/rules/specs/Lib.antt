@@ -7,6 +7,7 @@
 --   Fraction == rows read, fractions, what a rebuilt column meets
 --   Lost     == the lost set, and what a filled stripe is
 --   Refusal  == the first refusal that applies; refusal 1 (the others stand by entry in the entries' crates; 9 in crate `tables`)
+--   Sizes    == what the type of the sizes keeps
 --   Paper    == the equations of Ye and Barg as they print them
 --   Bench    == the bench stripes of document 01 that are proved
 --   Promise  == what each public function of this crate promises
@@ -20,6 +21,7 @@ pub mod Equation
 pub mod Fraction
 pub mod Lost
 pub mod Refusal
+pub mod Sizes
 pub mod Paper
 pub mod Bench
 pub mod Promise

@@ -4,15 +4,23 @@
 // Every function that another crate can call takes every input: none has a `requires`. What each promises is in specs/Promise.antt.
 #![tactic(auto)]
 
+mod checking;
 mod measuring;
 mod points;
+mod refusals;
 mod shapes;
 
-// What the caller chooses, and the answer when it is measured: all sizes, or the number of the refusal.
-pub use shapes::{Measured, Shape, Sizes};
+// What the caller chooses, and an accepted shape with all its sizes.
+pub use shapes::{Shape, Sizes};
+
+// Why an entry refuses, in document 01's numbers; and what an inner function answers where what it is given doesn't fit together.
+pub use refusals::{Misfit, Refusal};
 
 // The sizes of an accepted shape, and what each digit of a row counts.
 pub use measuring::{measure, worth};
+
+// A buffer's length checked; the lengths and nodes of a shape are methods of its sizes.
+pub use checking::check_len;
 
 // The point of a node.
 pub use points::point;

@@ -13,10 +13,7 @@ const POINTS: [u8; 16] = [
 pub fn point(shape: Shape, i: usize) -> u8
     ensures { PointIs shape i result }
 {
-    if i < 1 {
-        return 0;
-    }
-    if 16 < i {
+    if i < 1 || i > 16 {
         return 0;
     }
     POINTS[i - 1]

@@ -38,7 +38,7 @@ room sh z h v below =
       start_end =
           omega (
             arith,
-            mul-le-mul_right {m = v * z.s} {n = z.n} z.l (omega (arith, ends, few.phantoms_few)),
+            mul-le-mul_right {m = v * z.s} {n = z.shape.n} z.l (omega (arith, ends, few.phantoms_few)),
             stripe-is sh z h,
           );
     }

@@ -82,11 +82,11 @@ NodeStep sh stripe z = (v u w p e : ℕ) (before later : List ℕ)
     → p ≡ point_of sh (v * z.s + u + 1)
     → e ≡ min (v * z.s * z.l + z.s * z.l) (stripe_length sh)
     → SumsAre sh (symbol sh stripe) (v * z.s + u) before
-    → Shared z.r p z.l (weight_at z.s w z.l (take (e - v * z.s * z.l) (drop (v * z.s * z.l) stripe)) u) before later
+    → Shared z.shape.r p z.l (weight_at z.s w z.l (take (e - v * z.s * z.l) (drop (v * z.s * z.l) stripe)) u) before later
     → SumsAre sh (symbol sh stripe) (v * z.s + (u + 1)) later
 
 module _ (sh : Shape) (b : Bounds sh) (stripe : List ℕ) where
-  node-step-at : NodeStep sh stripe (sizes_of sh)
+  node-step-at : NodeStep sh stripe (sizes_of sh b)
   unfolding stripe_length
   node-step-at v u w p e before later of_groups inside is-worth is-point is-end was shared =
       rw (add-one u, add-suc (v * group_size sh) u)
@@ -98,7 +98,7 @@ module _ (sh : Shape) (b : Bounds sh) (stripe : List ℕ) where
       right a ha = rw (is-worth, is-end) (part-weight sh b stripe a v u ha of_groups inside)
 
 pub node-step : (sh : Shape) (z : Sizes) → SizesAre sh z → (stripe : List ℕ) → NodeStep sh stripe z
-node-step sh z h stripe = subst (NodeStep sh stripe) (sym (sizes_are sh z h)) (node-step-at sh (bounds sh h.taken) stripe)
+node-step sh z h stripe = subst (NodeStep sh stripe) (sym (sizes_are sh z h (bounds sh h.taken))) (node-step-at sh (bounds sh h.taken) stripe)
 
 -- what the sums of all nodes say of the stripe
 module _ (sh : Shape) (stripe sums : List ℕ) (all : SumsAre sh (symbol sh stripe) (groups sh * group_size sh) sums) where

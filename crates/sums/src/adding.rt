@@ -6,7 +6,7 @@ ghost use Rattle.rules.specs.Stripe.{symbol, stripe_length};
 ghost use Rattle.sums.specs.Kernel.{SumsAre};
 ghost use Rattle.sums.specs.Promise.{SumsMeet};
 
-use rules::{Measured, Shape, Sizes, measure, point, worth};
+use rules::{Shape, Sizes, measure, point, worth};
 use weights::add_node;
 use yebarg::Outcome;
 
@@ -19,7 +19,8 @@ pub fn add_all(sums: &mut [u8], stripe: &[u8], shape: Shape, z: Sizes)
     requires sums_are { SumsAre shape (symbol shape stripe.now) 0 sums.old }
     ensures { SumsAre shape (symbol shape stripe.now) (groups shape * group_size shape) sums.new }
 {
-    let Sizes { r, m, l, s, .. } = z;
+    let Sizes { m, l, s, .. } = z;
+    let r = z.shape.r;
     // Group and place count from 0 here.
     for v in 0..m {
         let start = v * s * l;
@@ -38,13 +39,13 @@ pub fn add_all(sums: &mut [u8], stripe: &[u8], shape: Shape, z: Sizes)
 pub fn sums_of(shape: Shape, stripe: &[u8], sums: &mut [u8]) -> Outcome
     ensures { SumsMeet shape stripe.now sums.old result sums.new }
 {
-    let Measured::Accepted(z) = measure(shape) else {
+    let Ok(z) = measure(shape) else {
         return Outcome::Refused(1);
     };
-    if stripe.len() != z.n * z.l {
+    if stripe.len() != z.shape.n * z.l {
         return Outcome::Refused(2);
     }
-    let end = z.r * z.l;
+    let end = z.shape.r * z.l;
     if sums.len() != end {
         return Outcome::Refused(2);
     }

@@ -5,7 +5,7 @@ ghost use Rattle.sums.specs.Promise.{TestMeets};
 
 use crate::adding::add_all;
 use crate::answers::{Failure, Tested};
-use rules::{Measured, Shape, measure};
+use rules::{Shape, measure};
 
 // The lowest row, and in it the lowest t, whose sum isn't 0.
 fn lowest(sums: &[u8], r: usize, l: usize) -> Option<Failure>
@@ -27,17 +27,17 @@ fn lowest(sums: &[u8], r: usize, l: usize) -> Option<Failure>
 pub fn test(shape: Shape, stripe: &[u8]) -> Tested
     ensures { TestMeets shape stripe.now result }
 {
-    let Measured::Accepted(z) = measure(shape) else {
+    let Ok(z) = measure(shape) else {
         return Tested::Refused(1);
     };
-    if stripe.len() != z.n * z.l {
+    if stripe.len() != z.shape.n * z.l {
         return Tested::Refused(2);
     }
-    let end = z.r * z.l;
+    let end = z.shape.r * z.l;
     // At most 4 sums for each of at most 256 rows.
     let mut sums = [0u8; 1024];
     add_all(&mut sums[..end], stripe, shape, z);
-    match lowest(&sums[..end], z.r, z.l) {
+    match lowest(&sums[..end], z.shape.r, z.l) {
         Some(failure) => Tested::Fails(failure),
         None => Tested::Whole,
     }

@@ -26,7 +26,7 @@ unfolding refused_line line
 refused-line q = refl
 
 pub shape-line : (sh : Shape) (z : Sizes) → SizesAre sh z
-    → shape_line sh ≡ letters "shape" ++ spaced z.n ++ spaced z.r ++ spaced z.l ++ letters "\n"
+    → shape_line sh ≡ letters "shape" ++ spaced z.shape.n ++ spaced z.shape.r ++ spaced z.l ++ letters "\n"
 unfolding shape_line line
 shape-line sh z are =
     rw (are.n-is, are.r-is, are.l-is) (three-words (letters "shape") (spaced sh.n) (spaced sh.r) (spaced (rows sh)) (letters "\n"))

@@ -28,8 +28,8 @@ pub fn put_shape(shape: Shape, z: Sizes, text: &mut [u8]) -> usize
     ensures { Put 0 (shape_line shape) text.old text.new result }
 {
     let word = put(b"shape", 0, text);
-    let n = put_number(z.n, word, text);
-    let r = put_number(z.r, n, text);
+    let n = put_number(z.shape.n, word, text);
+    let r = put_number(z.shape.r, n, text);
     let l = put_number(z.l, r, text);
     put(b"\n", l, text)
 }
@@ -42,7 +42,7 @@ fn put_nodes(shape: Shape, z: Sizes, set: u16, at: usize, text: &mut [u8]) -> us
 {
     let mut stop = at;
     let mut i = 0;
-    while i < z.n {
+    while i < z.shape.n {
         if (set >> i) % 2 == 1 {
             stop = put_number(i + 1, stop, text);
         }
@@ -96,7 +96,7 @@ pub fn put_columns(
 {
     let mut stop = at;
     let mut i = 0;
-    while i < z.n {
+    while i < z.shape.n {
         if (set >> i) % 2 == 1 {
             stop = put_column(shape, z, stripe, i, stop, text);
         }

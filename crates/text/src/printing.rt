@@ -8,7 +8,7 @@ ghost use Rattle.text.specs.Promise.{PrintMeets};
 use crate::answers::Printed;
 use crate::lines::{put_columns, put_lost, put_refused, put_shape};
 use pack::{Contents, LARGEST_STRIPE, Unpacked};
-use rules::{Measured, measure};
+use rules::measure;
 
 // How long the longest text is, and how many bytes are lent for one.
 pub const LONGEST_TEXT: usize = 4168;
@@ -21,13 +21,13 @@ fn put_contents(contents: Contents, stripe: &[u8], text: &mut [u8]) -> usize
 {
     let shape = contents.shape;
     let lost = contents.lost;
-    let Measured::Accepted(z) = measure(shape) else {
+    let Ok(z) = measure(shape) else {
         return put_refused(1, text);
     };
-    if (lost as usize) >> z.n != 0 {
+    if (lost as usize) >> z.shape.n != 0 {
         return put_refused(3, text);
     }
-    if z.r < u16::count_ones(lost) as usize {
+    if z.shape.r < u16::count_ones(lost) as usize {
         return put_refused(4, text);
     }
     let first = put_shape(shape, z, text);

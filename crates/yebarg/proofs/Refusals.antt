@@ -15,7 +15,8 @@ use Rattle.rules.specs.Fraction.{fraction_length}
 use Rattle.rules.specs.Refusal.{first_of, ◌given-when◌, shape_refusal}
 use Rattle.rules.proofs.Checks.{neither}
 use Rattle.rules.proofs.Accepted.{is-accepted, is-refused}
-use Rattle.yebarg.specs.Refusal.{not_node, lay_refusal, read_back_refusal, cut_refusal}
+use Rattle.rules.specs.Refusal.{not_node}
+use Rattle.yebarg.specs.Refusal.{lay_refusal, read_back_refusal, cut_refusal}
 use Rattle.yebarg.specs.Promise.{Writes}
 
 pub not_node-low : (sh : Shape) (i : ℕ) → i < 1 → not_node sh i ≡ true

@@ -16,7 +16,8 @@ use Rattle.rules.specs.Bench.{shape, stripe_c}
 use Rattle.yebarg.specs.declared.answers.Outcome.{Outcome}
 use Rattle.yebarg.specs.declared.answers.Outcome.TheVariants.{Done, Refused}
 use Rattle.yebarg.specs.Answer.{refusal}
-use Rattle.yebarg.specs.Refusal.{not_node, lay_refusal, read_back_refusal, cut_refusal}
+use Rattle.rules.specs.Refusal.{not_node}
+use Rattle.yebarg.specs.Refusal.{lay_refusal, read_back_refusal, cut_refusal}
 use Rattle.yebarg.specs.Promise.{Writes, LayMeets, ReadBackMeets, CutMeets}
 
 pub writes_settled : (refused : Option ℕ) (wanted before x y : List ℕ) → Writes refused wanted before x → Writes refused wanted before y → x ≡ y

@@ -1,18 +1,14 @@
 -- The refusals of each entry, in document 01's order: the first that applies is given, and none otherwise.
---   not_node sh i   == i isn't 1 to n
 --   lay_refusal     == of `lay`: shape; record longer than k × l; stripe
 --   read_back_refusal == of `read_back`: shape; stripe; buffer
 --   cut_refusal     == of `cut`: shape; column; buffer; helper; failed node; the failed node's own fraction
-use Rattle.std.specs.Prelude.{Bool, not, ◌||◌, List, [], ◌∷◌, ℕ, eqb, ltb, length}
+use Rattle.std.specs.Prelude.{not, List, [], ◌∷◌, ℕ, eqb, ltb, length}
 use Rattle.std.proofs.Math.Option.{Option}
 use Rattle.rules.specs.declared.shapes.Shape.{Shape}
 use Rattle.rules.specs.Shape.{accepted, rows}
 use Rattle.rules.specs.Stripe.{stripe_length, data_length}
 use Rattle.rules.specs.Fraction.{fraction_length}
-use Rattle.rules.specs.Refusal.{first_of, ◌given-when◌}
-
-unfoldable pub not_node : Shape → ℕ → Bool
-not_node sh i = ltb i 1 || ltb sh.n i
+use Rattle.rules.specs.Refusal.{first_of, ◌given-when◌, not_node}
 
 unfoldable pub lay_refusal : Shape → List ℕ → List ℕ → Option ℕ
 lay_refusal sh rec stripe =

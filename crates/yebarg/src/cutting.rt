@@ -4,7 +4,7 @@ ghost use Rattle.yebarg.specs.Kernel.{Taken};
 ghost use Rattle.yebarg.specs.Promise.{CutMeets};
 
 use crate::answers::Outcome;
-use rules::{Measured, Shape, measure, worth};
+use rules::{Shape, measure, worth};
 
 // What the helper gives to rebuild the failed node: its column's bytes at the rows with the failed node's digit, in rising row order.
 pub fn cut(
@@ -16,7 +16,7 @@ pub fn cut(
 ) -> Outcome
     ensures { CutMeets shape helper failed column.now fraction.old result fraction.new }
 {
-    let Measured::Accepted(z) = measure(shape) else {
+    let Ok(z) = measure(shape) else {
         return Outcome::Refused(1);
     };
     if column.len() != z.l {
@@ -28,13 +28,13 @@ pub fn cut(
     if helper < 1 {
         return Outcome::Refused(3);
     }
-    if z.n < helper {
+    if z.shape.n < helper {
         return Outcome::Refused(3);
     }
     if failed < 1 {
         return Outcome::Refused(3);
     }
-    if z.n < failed {
+    if z.shape.n < failed {
         return Outcome::Refused(3);
     }
     if helper == failed {

@@ -13,4 +13,4 @@ pub returns-in_default : goal.returns-in_default
 returns-in_default c = sizes-refused _ _ _ _ _ (measured-refused _ (measured (goal.at.returns-in_default c).After-measure) c.in_default.is)
 
 pub returns : goal.returns
-returns c = sizes-told _ _ _ _ _ c.in-Accepted.z (measured-sizes _ (measured (goal.at.returns c).After-measure) c.in-Accepted.is)
+returns c = sizes-told _ _ _ _ _ c.in-Ok.z (measured-sizes _ (measured (goal.at.returns c).After-measure) c.in-Ok.is)

@@ -16,7 +16,7 @@ use Rattle.capi.specs.Word.{shape_of, outcome_of}
 use Rattle.capi.proofs.Codes.{fill_not_zero, told}
 use Rattle.capi.proofs.Words.{bits_above}
 use Rattle.capi.proofs.stripes.przytulisz_fill.Goals as goal
-use Rattle.capi.proofs.stripes.przytulisz_fill.Goals.{After-measure, In-Accepted}
+use Rattle.capi.proofs.stripes.przytulisz_fill.Goals.{After-measure, In-Ok}
 
 -- the shape that the number says
 abbrev said : After-measure → Shape
@@ -25,16 +25,16 @@ said c = shape_of c.args.shape
 measured : (c : After-measure) → MeasuredIs (said c) c.measure.result
 measured c = subst (λ sh. MeasuredIs sh c.measure.result) c.shape_of.ensures c.measure.ensures
 
-abbrev size : In-Accepted → Sizes
-size c = c.in-Accepted.z
+abbrev size : In-Ok → Sizes
+size c = c.in-Ok.z
 
-sizes : (c : In-Accepted) → SizesAre (shape_of c.args.shape) (size c)
-sizes c = measured-sizes (shape_of c.args.shape) (measured (goal.at.In-Accepted c).After-measure) c.in-Accepted.is
+sizes : (c : In-Ok) → SizesAre (shape_of c.args.shape) (size c)
+sizes c = measured-sizes (shape_of c.args.shape) (measured (goal.at.In-Ok c).After-measure) c.in-Ok.is
 
-few : (c : In-Accepted) → Small (size c)
+few : (c : In-Ok) → Small (size c)
 few c = small (shape_of c.args.shape) (size c) (sizes c)
 
-stripe-end : (c : In-Accepted) → (size c).n * (size c).l ≡ stripe_length (shape_of c.args.shape)
+stripe-end : (c : In-Ok) → (size c).shape.n * (size c).l ≡ stripe_length (shape_of c.args.shape)
 stripe-end c = stripe-is (shape_of c.args.shape) (size c) (sizes c)
 
 pub returns-in_default : goal.returns-in_default
@@ -42,19 +42,19 @@ unfolding outcome_of
 returns-in_default c = fill-refused _ _ _ (fill-shape _ _ _ (measured-refused _ (measured (goal.at.returns-in_default c).After-measure) c.in_default.is))
 
 pub overflow_mul-z : goal.overflow_mul-z
-overflow_mul-z c = record { fits = omega (arith, mul-le-mul (few (goal.at.overflow_mul-z c).In-Accepted).n-most (few (goal.at.overflow_mul-z c).In-Accepted).l-most) }
+overflow_mul-z c = record { fits = omega (arith, mul-le-mul (few (goal.at.overflow_mul-z c).In-Ok).n-most (few (goal.at.overflow_mul-z c).In-Ok).l-most) }
 
 pub returns-then-stripe-z : goal.returns-then-stripe-z
 unfolding outcome_of
 returns-then-stripe-z c =
-    fill-refused _ _ _ (fill-length _ _ _ (sizes (goal.at.returns-then-stripe-z c).In-Accepted).taken (λ e. c.if-stripe-z.true (e ∙ sym (stripe-end (goal.at.returns-then-stripe-z c).In-Accepted))))
+    fill-refused _ _ _ (fill-length _ _ _ (sizes (goal.at.returns-then-stripe-z c).In-Ok).taken (λ e. c.if-stripe-z.true (e ∙ sym (stripe-end (goal.at.returns-then-stripe-z c).In-Ok))))
 
 pub returns-then-lost-gt65535 : goal.returns-then-lost-gt65535
 unfolding outcome_of
 returns-then-lost-gt65535 c =
     fill-refused _ _ _
-    (fill_bit _ _ _ (sizes (goal.at.returns-then-lost-gt65535 c).In-Accepted).taken (c.if-stripe-z.false ∙ stripe-end (goal.at.returns-then-lost-gt65535 c).In-Accepted)
-    (bits_above _ _ (bounds _ (sizes (goal.at.returns-then-lost-gt65535 c).In-Accepted).taken).n-most (omega (arith, c.if-lost-gt65535.true))))
+    (fill_bit _ _ _ (sizes (goal.at.returns-then-lost-gt65535 c).In-Ok).taken (c.if-stripe-z.false ∙ stripe-end (goal.at.returns-then-lost-gt65535 c).In-Ok)
+    (bits_above _ _ (bounds _ (sizes (goal.at.returns-then-lost-gt65535 c).In-Ok).taken).n-most (omega (arith, c.if-lost-gt65535.true))))
 
 pub returns : goal.returns
 returns c =

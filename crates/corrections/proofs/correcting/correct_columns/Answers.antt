@@ -11,15 +11,15 @@ use Rattle.rules.proofs.Lengths.{all-nodes, stripe-is}
 use Rattle.corrections.specs.Promise.{Correctable}
 use Rattle.corrections.proofs.Refusing.{cannot_correct, can_correct}
 use Rattle.corrections.proofs.correcting.correct_columns.Goals as goal
-use Rattle.corrections.proofs.correcting.correct_columns.Goals.{Else-stripe-z, In-Accepted}
+use Rattle.corrections.proofs.correcting.correct_columns.Goals.{Else-stripe-z, In-Ok}
 
-abbrev size : In-Accepted → Sizes
-size c = c.in-Accepted.z
+abbrev size : In-Ok → Sizes
+size c = c.in-Ok.z
 
-sizes : (c : In-Accepted) → SizesAre c.args.shape (size c)
-sizes c = measured-sizes c.args.shape c.measure.ensures c.in-Accepted.is
+sizes : (c : In-Ok) → SizesAre c.args.shape (size c)
+sizes c = measured-sizes c.args.shape c.measure.ensures c.in-Ok.is
 
-few : (c : In-Accepted) → Small (size c)
+few : (c : In-Ok) → Small (size c)
 few c = small c.args.shape (size c) (sizes c)
 
 pub returns-in_default : goal.returns-in_default
@@ -28,30 +28,30 @@ returns-in_default c =
     (λ way. none-ne-some _ (sym way.taken ∙ measured-refused _ c.measure.ensures c.in_default.is))
 
 pub returns-then-scores-z : goal.returns-then-scores-z
-returns-then-scores-z c = cannot_correct _ _ _ _ _ _ (λ way. omega (arith, c.if-scores-z.true, way.scores_enough, (sizes (goal.at.returns-then-scores-z c).In-Accepted).l-is))
+returns-then-scores-z c = cannot_correct _ _ _ _ _ _ (λ way. omega (arith, c.if-scores-z.true, way.scores_enough, (sizes (goal.at.returns-then-scores-z c).In-Ok).l-is))
 
 pub overflow_mul-z : goal.overflow_mul-z
-overflow_mul-z c = record { fits = omega (arith, (few (goal.at.overflow_mul-z c).In-Accepted).nodes-most) }
+overflow_mul-z c = record { fits = omega (arith, (few (goal.at.overflow_mul-z c).In-Ok).nodes-most) }
 
 pub overflow_mul-z-2 : goal.overflow_mul-z-2
-overflow_mul-z-2 c = let z = few (goal.at.overflow_mul-z-2 c).In-Accepted in record { fits = omega (arith, mul-le-mul z.nodes-most z.l-most) }
+overflow_mul-z-2 c = let z = few (goal.at.overflow_mul-z-2 c).In-Ok in record { fits = omega (arith, mul-le-mul z.nodes-most z.l-most) }
 
 pub returns-then-short-z : goal.returns-then-short-z
 returns-then-short-z c =
-    cannot_correct _ _ _ _ _ _ (λ way. c.if-short-z.true (way.short-exact ∙ sym (all-nodes c.args.shape c.in-Accepted.z (sizes (goal.at.returns-then-short-z c).In-Accepted))))
+    cannot_correct _ _ _ _ _ _ (λ way. c.if-short-z.true (way.short-exact ∙ sym (all-nodes c.args.shape c.in-Ok.z (sizes (goal.at.returns-then-short-z c).In-Ok))))
 
 pub overflow_mul-z-3 : goal.overflow_mul-z-3
-overflow_mul-z-3 c = let z = few (goal.at.overflow_mul-z-3 c).In-Accepted in record { fits = omega (arith, mul-le-mul z.n-most z.l-most) }
+overflow_mul-z-3 c = let z = few (goal.at.overflow_mul-z-3 c).In-Ok in record { fits = omega (arith, mul-le-mul z.n-most z.l-most) }
 
 pub returns-then-stripe-z : goal.returns-then-stripe-z
 unfolding stripe_length
 returns-then-stripe-z c =
-    cannot_correct _ _ _ _ _ _ (λ way. c.if-stripe-z.true (way.exact ∙ sym (stripe-is c.args.shape c.in-Accepted.z (sizes (goal.at.returns-then-stripe-z c).In-Accepted))))
+    cannot_correct _ _ _ _ _ _ (λ way. c.if-stripe-z.true (way.exact ∙ sym (stripe-is c.args.shape c.in-Ok.z (sizes (goal.at.returns-then-stripe-z c).In-Ok))))
 
 pub correct_chosen-requires : goal.correct_chosen-requires
 correct_chosen-requires c =
     record {
-      sizes_are = sizes (goal.at.correct_chosen-requires c).In-Accepted;
+      sizes_are = sizes (goal.at.correct_chosen-requires c).In-Ok;
       scores_enough = c.if-scores-z.false;
       short_exact = c.if-short-z.false;
       exact = c.if-stripe-z.false;
@@ -63,10 +63,10 @@ unfolding stripe_length
 correctable c =
     let sh = c.args.shape in
     record {
-      taken = (sizes (goal.at.Else-stripe-z c).In-Accepted).taken;
-      scores_enough = omega (arith, c.if-scores-z.false, (sizes (goal.at.Else-stripe-z c).In-Accepted).l-is);
-      short-exact = c.if-short-z.false ∙ all-nodes sh c.in-Accepted.z (sizes (goal.at.Else-stripe-z c).In-Accepted);
-      exact = c.if-stripe-z.false ∙ stripe-is sh c.in-Accepted.z (sizes (goal.at.Else-stripe-z c).In-Accepted);
+      taken = (sizes (goal.at.Else-stripe-z c).In-Ok).taken;
+      scores_enough = omega (arith, c.if-scores-z.false, (sizes (goal.at.Else-stripe-z c).In-Ok).l-is);
+      short-exact = c.if-short-z.false ∙ all-nodes sh c.in-Ok.z (sizes (goal.at.Else-stripe-z c).In-Ok);
+      exact = c.if-stripe-z.false ∙ stripe-is sh c.in-Ok.z (sizes (goal.at.Else-stripe-z c).In-Ok);
     }
 
 pub returns : goal.returns

@@ -25,18 +25,18 @@ use Rattle.fill.proofs.Flags.{parity-none, parity-count}
 use Rattle.fill.proofs.Taken.{taken→parity}
 use Rattle.fill.proofs.Refusals.{parity-shape, parity-length, parity-refused, parity-done}
 use Rattle.fill.proofs.filling.fill_parity.Goals as goal
-use Rattle.fill.proofs.filling.fill_parity.Goals.{After-parity_flags, In-Accepted}
+use Rattle.fill.proofs.filling.fill_parity.Goals.{After-parity_flags, In-Ok}
 
-abbrev size : In-Accepted → Sizes
-size c = c.in-Accepted.z
+abbrev size : In-Ok → Sizes
+size c = c.in-Ok.z
 
-sizes : (c : In-Accepted) → SizesAre c.args.shape (size c)
-sizes c = measured-sizes c.args.shape c.measure.ensures c.in-Accepted.is
+sizes : (c : In-Ok) → SizesAre c.args.shape (size c)
+sizes c = measured-sizes c.args.shape c.measure.ensures c.in-Ok.is
 
-few : (c : In-Accepted) → Small (size c)
+few : (c : In-Ok) → Small (size c)
 few c = small c.args.shape (size c) (sizes c)
 
-stripe-end : (c : In-Accepted) → (size c).n * (size c).l ≡ stripe_length c.args.shape
+stripe-end : (c : In-Ok) → (size c).shape.n * (size c).l ≡ stripe_length c.args.shape
 stripe-end c = stripe-is c.args.shape (size c) (sizes c)
 
 -- up to node n, what comes after k is parity
@@ -44,32 +44,32 @@ after-k : (sh : Shape) (k n : ℕ) → k ≡ data_nodes sh → n ≡ sh.n → (i
 unfolding is_parity
 after-k sh k n is-k is-n i h = simp (is-k, le-leb i n (omega arith), and-true)
 
-parity-exact : (sh : Shape) (z : Sizes) {flags : List Bool} → SizesAre sh z → FlagsAre (λ i. ltb z.k i && leb i z.n) flags
-    → z.r ≡ count sh.n (chosen flags)
+parity-exact : (sh : Shape) (z : Sizes) {flags : List Bool} → SizesAre sh z → FlagsAre (λ i. ltb z.k i && leb i z.shape.n) flags
+    → z.shape.r ≡ count sh.n (chosen flags)
 unfolding data_nodes
 parity-exact sh z {flags} h are =
-    subst (λ n. z.r ≡ count n (chosen flags)) h.n-is
-    (sym (parity-count z.k z.n are z.r (omega (arith, h.k-is, h.n-is, h.r-is, (bounds sh h.taken).n-least)) (small sh z h).n-most))
+    subst (λ n. z.shape.r ≡ count n (chosen flags)) h.n-is
+    (sym (parity-count z.k z.shape.n are z.shape.r (omega (arith, h.k-is, h.n-is, h.r-is, (bounds sh h.taken).n-least)) (small sh z h).n-most))
 
 pub returns-in_default : goal.returns-in_default
 returns-in_default c = parity-refused _ _ (parity-shape _ _ (measured-refused _ c.measure.ensures c.in_default.is))
 
 pub overflow_mul-z : goal.overflow_mul-z
-overflow_mul-z c = record { fits = omega (arith, mul-le-mul (few (goal.at.overflow_mul-z c).In-Accepted).n-most (few (goal.at.overflow_mul-z c).In-Accepted).l-most) }
+overflow_mul-z c = record { fits = omega (arith, mul-le-mul (few (goal.at.overflow_mul-z c).In-Ok).n-most (few (goal.at.overflow_mul-z c).In-Ok).l-most) }
 
 pub returns-then-stripe-z : goal.returns-then-stripe-z
 returns-then-stripe-z c =
-    parity-refused _ _ (parity-length _ _ (sizes (goal.at.returns-then-stripe-z c).In-Accepted).taken (λ e. c.if-stripe-z.true (e ∙ sym (stripe-end (goal.at.returns-then-stripe-z c).In-Accepted))))
+    parity-refused _ _ (parity-length _ _ (sizes (goal.at.returns-then-stripe-z c).In-Ok).taken (λ e. c.if-stripe-z.true (e ∙ sym (stripe-end (goal.at.returns-then-stripe-z c).In-Ok))))
 
 pub fill_one-requires : goal.fill_one-requires
 fill_one-requires c =
     record {
-      sizes_are = sizes (goal.at.fill_one-requires c).In-Accepted;
-      stripe_len = c.if-stripe-z.false ∙ stripe-end (goal.at.fill_one-requires c).In-Accepted;
+      sizes_are = sizes (goal.at.fill_one-requires c).In-Ok;
+      stripe_len = c.if-stripe-z.false ∙ stripe-end (goal.at.fill_one-requires c).In-Ok;
       count_value = (
-        parity-exact c.args.shape c.in-Accepted.z (sizes (goal.at.fill_one-requires c).In-Accepted) c.parity_flags.ensures,
-        omega (arith, (sizes (goal.at.fill_one-requires c).In-Accepted).r-is),
-        subst (λ n. NoneFrom n c.parity_flags.result) (sizes (goal.at.fill_one-requires c).In-Accepted).n-is (parity-none c.in-Accepted.z.k c.in-Accepted.z.n c.parity_flags.ensures),
+        parity-exact c.args.shape c.in-Ok.z (sizes (goal.at.fill_one-requires c).In-Ok) c.parity_flags.ensures,
+        omega (arith, (sizes (goal.at.fill_one-requires c).In-Ok).r-is),
+        subst (λ n. NoneFrom n c.parity_flags.result) (sizes (goal.at.fill_one-requires c).In-Ok).n-is (parity-none c.in-Ok.z.k c.in-Ok.z.shape.n c.parity_flags.ensures),
       );
     }
 
@@ -77,11 +77,11 @@ fill_one-requires c =
 same_nodes : (c : After-parity_flags) → (i : ℕ) → 1 ≤ i → i ≤ c.args.shape.n
     → chosen c.parity_flags.result (i - 1) ≡ is_parity c.args.shape i
 same_nodes c i h k =
-    c.parity_flags.ensures.each (i - 1) (omega (arith, (few (goal.at.After-parity_flags c).In-Accepted).n-most, (sizes (goal.at.After-parity_flags c).In-Accepted).n-is))
-    ∙ ap (λ j. ltb c.in-Accepted.z.k j && leb j c.in-Accepted.z.n) (omega arith)
-    ∙ after-k c.args.shape c.in-Accepted.z.k c.in-Accepted.z.n (sizes (goal.at.After-parity_flags c).In-Accepted).k-is (sizes (goal.at.After-parity_flags c).In-Accepted).n-is i k
+    c.parity_flags.ensures.each (i - 1) (omega (arith, (few (goal.at.After-parity_flags c).In-Ok).n-most, (sizes (goal.at.After-parity_flags c).In-Ok).n-is))
+    ∙ ap (λ j. ltb c.in-Ok.z.k j && leb j c.in-Ok.z.shape.n) (omega arith)
+    ∙ after-k c.args.shape c.in-Ok.z.k c.in-Ok.z.shape.n (sizes (goal.at.After-parity_flags c).In-Ok).k-is (sizes (goal.at.After-parity_flags c).In-Ok).n-is i k
 
 pub returns : goal.returns
 returns c =
-    parity-done _ _ (taken→parity _ _ (sizes (goal.at.returns c).In-Accepted).taken (c.if-stripe-z.false ∙ stripe-end (goal.at.returns c).In-Accepted))
-    (filled-same-set _ _ _ _ _ (same_nodes (goal.at.returns c).After-parity_flags) (c.fill_one.ensures.fills (c.fill_one.ensures.always (sizes (goal.at.returns c).In-Accepted).r-is)))
+    parity-done _ _ (taken→parity _ _ (sizes (goal.at.returns c).In-Ok).taken (c.if-stripe-z.false ∙ stripe-end (goal.at.returns c).In-Ok))
+    (filled-same-set _ _ _ _ _ (same_nodes (goal.at.returns c).After-parity_flags) (c.fill_one.ensures.fills (c.fill_one.ensures.always (sizes (goal.at.returns c).In-Ok).r-is)))

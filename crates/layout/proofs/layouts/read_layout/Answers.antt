@@ -21,7 +21,7 @@ use Rattle.layout.proofs.Checking.{HeaderTaken, CountTaken, layout_short, layout
 use Rattle.layout.proofs.Checking.{layout_total, layout_offset, layout_length, layout_passed, layout_refused, layout_accepted}
 use Rattle.layout.proofs.Packs.{layout_found}
 use Rattle.layout.proofs.layouts.read_layout.Goals as goal
-use Rattle.layout.proofs.layouts.read_layout.Goals.{After-first_wrong_offset, After-held_of-held, After-measure, After-wrong_length, After-wrong_total, Else-first_bad_entry-ne0, Else-first_wrong_offset-ne0, Else-pack-lt-HEADER, Else-pack-start, Else-wrong_length, Else-wrong_total, In-Accepted}
+use Rattle.layout.proofs.layouts.read_layout.Goals.{After-first_wrong_offset, After-held_of-held, After-measure, After-wrong_length, After-wrong_total, Else-first_bad_entry-ne0, Else-first_wrong_offset-ne0, Else-pack-lt-HEADER, Else-pack-start, Else-wrong_length, Else-wrong_total, In-Ok}
 
 -- past the first check the header is there
 abbrev bytes : Else-pack-lt-HEADER → List ℕ
@@ -36,26 +36,26 @@ shape_is c = new_settled _ _ _ (shape_in c.args.pack.now) c.new-shape.ensures (r
 measured : (c : After-measure) → MeasuredIs (shape_in c.args.pack.now) c.measure.result
 measured c = subst (λ sh. MeasuredIs sh c.measure.result) (shape_is c) c.measure.ensures
 
-abbrev size : In-Accepted → Sizes
-size c = c.in-Accepted.z
+abbrev size : In-Ok → Sizes
+size c = c.in-Ok.z
 
-sizes : (c : In-Accepted) → SizesAre (shape_in c.args.pack.now) (size c)
-sizes c = measured-sizes _ (measured (goal.at.In-Accepted c).After-measure) c.in-Accepted.is
+sizes : (c : In-Ok) → SizesAre (shape_in c.args.pack.now) (size c)
+sizes c = measured-sizes _ (measured (goal.at.In-Ok c).After-measure) c.in-Ok.is
 
-few : (c : In-Accepted) → Small (size c)
+few : (c : In-Ok) → Small (size c)
 few c = small _ (size c) (sizes c)
 
-header : (c : In-Accepted) → HeaderTaken c.args.pack.now
+header : (c : In-Ok) → HeaderTaken c.args.pack.now
 header c =
     record { long = c.if-pack-lt-HEADER.false; zero-byte = omega arith; taken = (sizes c).taken }
 
 -- past the checks of how many entries there are
-abbrev pack-of : In-Accepted → List ℕ
+abbrev pack-of : In-Ok → List ℕ
 pack-of c = c.args.pack.now
 
 counted : (c : Else-pack-start) → CountTaken c.args.pack.now
 unfolding columns_at entry_at
-counted c = record { header = header (goal.at.Else-pack-start c).In-Accepted; few = c.if-n-p.false; there = c.if-pack-start.false }
+counted c = record { header = header (goal.at.Else-pack-start c).In-Ok; few = c.if-n-p.false; there = c.if-pack-start.false }
 
 -- past the checks of the entries, the total, the offsets, the length
 uncut : (c : Else-pack-start) → is_shorter c.args.pack.now ≡ false
@@ -71,14 +71,14 @@ most c = (a_byte (goal.at.Else-pack-start c).Else-pack-lt-HEADER 2, a_byte (goal
 total-is : (c : After-wrong_total) → c.wrong_total.result ≡ wrong_total c.args.pack.now
 unfolding columns_at entry_at
 total-is c =
-    c.wrong_total.ensures.placed (record { there = uncut (goal.at.After-wrong_total c).Else-pack-start; near = omega (arith, (most (goal.at.After-wrong_total c).Else-pack-start).0, (most (goal.at.After-wrong_total c).Else-pack-start).1); short = (few (goal.at.After-wrong_total c).In-Accepted).l-most })
-    ∙ total_by _ _ _ refl (sizes (goal.at.After-wrong_total c).In-Accepted).l-is
+    c.wrong_total.ensures.placed (record { there = uncut (goal.at.After-wrong_total c).Else-pack-start; near = omega (arith, (most (goal.at.After-wrong_total c).Else-pack-start).0, (most (goal.at.After-wrong_total c).Else-pack-start).1); short = (few (goal.at.After-wrong_total c).In-Ok).l-most })
+    ∙ total_by _ _ _ refl (sizes (goal.at.After-wrong_total c).In-Ok).l-is
 
 offsets_are : (c : After-first_wrong_offset) → c.first_wrong_offset.result ≡ first_wrong_offset c.args.pack.now
 unfolding columns_at entry_at
 offsets_are c =
-    c.first_wrong_offset.ensures.placed (record { there = uncut (goal.at.After-first_wrong_offset c).Else-pack-start; near = omega (arith, (most (goal.at.After-first_wrong_offset c).Else-pack-start).0, (most (goal.at.After-first_wrong_offset c).Else-pack-start).1); short = (few (goal.at.After-first_wrong_offset c).In-Accepted).l-most })
-    ∙ offsets_by _ _ _ refl (sizes (goal.at.After-first_wrong_offset c).In-Accepted).l-is
+    c.first_wrong_offset.ensures.placed (record { there = uncut (goal.at.After-first_wrong_offset c).Else-pack-start; near = omega (arith, (most (goal.at.After-first_wrong_offset c).Else-pack-start).0, (most (goal.at.After-first_wrong_offset c).Else-pack-start).1); short = (few (goal.at.After-first_wrong_offset c).In-Ok).l-most })
+    ∙ offsets_by _ _ _ refl (sizes (goal.at.After-first_wrong_offset c).In-Ok).l-is
 
 length-is : (c : After-wrong_length) → c.wrong_length.result ≡ wrong_length c.args.pack.now
 length-is c = c.wrong_length.ensures.there (uncut (goal.at.After-wrong_length c).Else-pack-start)
@@ -114,7 +114,7 @@ returns-in_default c =
     layout_refused _ (layout_shape _ c.if-pack-lt-HEADER.false c.if-zero-ne0.false (measured-refused _ (measured (goal.at.returns-in_default c).After-measure) c.in_default.is))
 
 pub returns-then-n-p : goal.returns-then-n-p
-returns-then-n-p c = layout_refused _ (layout_many _ (header (goal.at.returns-then-n-p c).In-Accepted) c.if-n-p.true)
+returns-then-n-p c = layout_refused _ (layout_many _ (header (goal.at.returns-then-n-p c).In-Ok) c.if-n-p.true)
 
 pub overflow_mul-start : goal.overflow_mul-start
 overflow_mul-start c = omega (arith, a_byte (goal.at.overflow_mul-start c).Else-pack-lt-HEADER 2, a_byte (goal.at.overflow_mul-start c).Else-pack-lt-HEADER 0)
@@ -124,7 +124,7 @@ overflow_add-start c = omega (arith, a_byte (goal.at.overflow_add-start c).Else-
 
 pub returns-then-pack-start : goal.returns-then-pack-start
 unfolding columns_at entry_at
-returns-then-pack-start c = layout_refused _ (layout_cut _ (header (goal.at.returns-then-pack-start c).In-Accepted) c.if-n-p.false c.if-pack-start.true)
+returns-then-pack-start c = layout_refused _ (layout_cut _ (header (goal.at.returns-then-pack-start c).In-Ok) c.if-n-p.false c.if-pack-start.true)
 
 pub returns-then-first_bad_entry-ne0 : goal.returns-then-first_bad_entry-ne0
 returns-then-first_bad_entry-ne0 c = layout_refused _ (layout_entry _ (counted (goal.at.returns-then-first_bad_entry-ne0 c).Else-pack-start) (λ q. c.if-first_bad_entry-ne0.true (c.first_bad_entry.ensures.there (uncut (goal.at.returns-then-first_bad_entry-ne0 c).Else-pack-start) ∙ q)))
@@ -145,7 +145,7 @@ returns-then-wrong_length c =
 
 formed : (c : Else-wrong_length) → EntriesGood c.args.pack.now
 formed c =
-    record { there = uncut (goal.at.Else-wrong_length c).Else-pack-start; nodes = omega (arith, (sizes (goal.at.Else-wrong_length c).In-Accepted).n-is, (few (goal.at.Else-wrong_length c).In-Accepted).n-most); good = good (goal.at.Else-wrong_length c).Else-first_bad_entry-ne0 }
+    record { there = uncut (goal.at.Else-wrong_length c).Else-pack-start; nodes = omega (arith, (sizes (goal.at.Else-wrong_length c).In-Ok).n-is, (few (goal.at.Else-wrong_length c).In-Ok).n-most); good = good (goal.at.Else-wrong_length c).Else-first_bad_entry-ne0 }
 
 is_found : (c : After-held_of-held) → LayoutIs c.args.pack.now (record { shape = c.new-shape.result; held = c.held_of-held.result; start = columns_at (count_in c.args.pack.now) })
 is_found c =

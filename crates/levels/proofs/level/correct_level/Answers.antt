@@ -41,7 +41,7 @@ fits c = bounds c.args.shape (sizes c).taken
 
 -- how many bytes all sums, the sums solved, and the columns of all nodes are
 abbrev all_end : Start → ℕ
-all_end c = c.args.z.r * c.args.z.l
+all_end c = c.args.z.shape.r * c.args.z.l
 
 abbrev end : Start → ℕ
 end c = c.args.count * c.args.z.l
@@ -75,7 +75,7 @@ pub slice_bounds-sums-end : goal.slice_bounds-sums-end
 slice_bounds-sums-end c = all_most (goal.at.slice_bounds-sums-end c).Start
 
 pub slice_bounds-sums_of-end : goal.slice_bounds-sums_of-end
-slice_bounds-sums_of-end c = sym (zeros-length (c.args.z.r * c.args.z.l) 1024 (all_most (goal.at.slice_bounds-sums_of-end c).Start))
+slice_bounds-sums_of-end c = sym (zeros-length (c.args.z.shape.r * c.args.z.l) 1024 (all_most (goal.at.slice_bounds-sums_of-end c).Start))
 
 -- the sums, and what lies after them
 abbrev sums : After-sums_of → List ℕ
@@ -88,20 +88,20 @@ summed : (c : After-sums_of) → SumsOf c.args.shape (symbol c.args.shape c.args
 summed c =
     c.sums_of.ensures.written
     (sums-accepted c.args.shape c.args.stripe.now _ (sizes (goal.at.After-sums_of c).Start).taken c.requires.stripe_len
-    (zeros-length (c.args.z.r * c.args.z.l) 1024 (all_most (goal.at.After-sums_of c).Start) ∙ ap₂ (λ (x y : ℕ). x * y) (sizes (goal.at.After-sums_of c).Start).r-is (sizes (goal.at.After-sums_of c).Start).l-is))
+    (zeros-length (c.args.z.shape.r * c.args.z.l) 1024 (all_most (goal.at.After-sums_of c).Start) ∙ ap₂ (λ (x y : ℕ). x * y) (sizes (goal.at.After-sums_of c).Start).r-is (sizes (goal.at.After-sums_of c).Start).l-is))
 
-few-of : (c : Start) → c.args.count ≤ c.args.z.r
+few-of : (c : Start) → c.args.count ≤ c.args.z.shape.r
 few-of c = omega (arith, c.requires.count_value.1, (sizes c).r-is)
 
-sums-enough : (c : After-sums_of) → (c.args.count * c.args.z.l) ≤ length (sums c ++ (drop (c.args.z.r * c.args.z.l) (replicate 1024 0)))
+sums-enough : (c : After-sums_of) → (c.args.count * c.args.z.l) ≤ length (sums c ++ (drop (c.args.z.shape.r * c.args.z.l) (replicate 1024 0)))
 sums-enough c =
-    omega (arith, length-append (sums c) (drop (c.args.z.r * c.args.z.l) (replicate 1024 0)), (summed c).all, ap₂ (λ (x y : ℕ). x * y) (sizes (goal.at.After-sums_of c).Start).r-is (sizes (goal.at.After-sums_of c).Start).l-is, mul-le-mul_right c.args.z.l (few-of (goal.at.After-sums_of c).Start))
+    omega (arith, length-append (sums c) (drop (c.args.z.shape.r * c.args.z.l) (replicate 1024 0)), (summed c).all, ap₂ (λ (x y : ℕ). x * y) (sizes (goal.at.After-sums_of c).Start).r-is (sizes (goal.at.After-sums_of c).Start).l-is, mul-le-mul_right c.args.z.l (few-of (goal.at.After-sums_of c).Start))
 
 pub slice_bounds-sums-end-2 : goal.slice_bounds-sums-end-2
 slice_bounds-sums-end-2 c = sums-enough (goal.at.slice_bounds-sums-end-2 c).After-sums_of
 
-sums_part : (c : After-sums_of) → length (take (c.args.count * c.args.z.l) (sums c ++ (drop (c.args.z.r * c.args.z.l) (replicate 1024 0)))) ≡ (c.args.count * c.args.z.l)
-sums_part c = length-take-le (c.args.count * c.args.z.l) (sums c ++ (drop (c.args.z.r * c.args.z.l) (replicate 1024 0))) (sums-enough c)
+sums_part : (c : After-sums_of) → length (take (c.args.count * c.args.z.l) (sums c ++ (drop (c.args.z.shape.r * c.args.z.l) (replicate 1024 0)))) ≡ (c.args.count * c.args.z.l)
+sums_part c = length-take-le (c.args.count * c.args.z.l) (sums c ++ (drop (c.args.z.shape.r * c.args.z.l) (replicate 1024 0))) (sums-enough c)
 
 pub slice_bounds-unknowns-end : goal.slice_bounds-unknowns-end
 slice_bounds-unknowns-end c = sym (sums_part (goal.at.slice_bounds-unknowns-end c).After-sums_of)
@@ -205,6 +205,6 @@ pub returns : goal.returns
 returns c =
     level_from c.args.shape c.args.flags c.args.nodes c.args.points _ c.args.count c.args.level c.args.stripe.now
     c.correct_columns.new.stripe c.requires.count_value.1 (lists (goal.at.returns c).Start) c.requires.listed_are.1 c.requires.listed_are.2 c.requires.count_value.2 c.args.z (sizes (goal.at.returns c).Start)
-    c.sums_of.new.sums (drop (c.args.z.r * c.args.z.l) (replicate 1024 0)) c.unknowns.new.found _ _ c.place_columns.new.to _
+    c.sums_of.new.sums (drop (c.args.z.shape.r * c.args.z.l) (replicate 1024 0)) c.unknowns.new.found _ _ c.place_columns.new.to _
     (summed (goal.at.returns c).After-sums_of) (found-length (goal.at.returns c).After-unknowns) (c.unknowns.ensures.solved (solved (goal.at.returns c).After-unknowns)) (short-length (goal.at.returns c).After-place_columns) c.place_columns.ensures
     (c.correct_columns.ensures.corrected (corrections_true _ _ _ _ _ _ _ _ c.correct_columns.ensures (correctable (goal.at.returns c).After-correct_columns)))

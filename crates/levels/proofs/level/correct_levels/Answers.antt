@@ -29,7 +29,7 @@ few c = small c.args.shape c.args.z (sizes c)
 fits : (c : Start) → Bounds c.args.shape
 fits c = bounds c.args.shape (sizes c).taken
 
-few-chosen : (sh : Shape) (z : Sizes) (flags : List Bool) {k : ℕ} → SizesAre sh z → k ≡ count sh.n (chosen flags) → k ≤ sh.r → count z.n (chosen flags) ≤ 4
+few-chosen : (sh : Shape) (z : Sizes) (flags : List Bool) {k : ℕ} → SizesAre sh z → k ≡ count sh.n (chosen flags) → k ≤ sh.r → count z.shape.n (chosen flags) ≤ 4
 few-chosen sh z flags h e few = subst (λ n. count n (chosen flags) ≤ 4) (sym h.n-is) (omega (arith, few, (bounds sh h.taken).r-most))
 
 -- the nodes listed and the scores are those of the shape

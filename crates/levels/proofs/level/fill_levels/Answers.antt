@@ -19,21 +19,21 @@ use Rattle.levels.specs.Promise.{NoneFrom, LevelsCorrected, Fillable}
 use Rattle.levels.proofs.Nodes.{none_from}
 use Rattle.levels.proofs.Refusing.{cannot-fill, can-fill}
 use Rattle.levels.proofs.level.fill_levels.Goals as goal
-use Rattle.levels.proofs.level.fill_levels.Goals.{After-count_of-count, Else-z-count, In-Accepted}
+use Rattle.levels.proofs.level.fill_levels.Goals.{After-count_of-count, Else-z-count, In-Ok}
 
-abbrev size : In-Accepted → Sizes
-size c = c.in-Accepted.z
+abbrev size : In-Ok → Sizes
+size c = c.in-Ok.z
 
-sizes : (c : In-Accepted) → SizesAre c.args.shape (size c)
-sizes c = measured-sizes c.args.shape c.measure.ensures c.in-Accepted.is
+sizes : (c : In-Ok) → SizesAre c.args.shape (size c)
+sizes c = measured-sizes c.args.shape c.measure.ensures c.in-Ok.is
 
-few : (c : In-Accepted) → Small (size c)
+few : (c : In-Ok) → Small (size c)
 few c = small c.args.shape (size c) (sizes c)
 
-stripe-end : (c : In-Accepted) → (size c).n * (size c).l ≡ stripe_length c.args.shape
+stripe-end : (c : In-Ok) → (size c).shape.n * (size c).l ≡ stripe_length c.args.shape
 stripe-end c = stripe-is c.args.shape (size c) (sizes c)
 
-sixteen : (c : In-Accepted) → length c.args.flags ≡ 16
+sixteen : (c : In-Ok) → length c.args.flags ≡ 16
 sixteen c = c.well_formed.1.0.1.0.1
 
 pub returns-in_default : goal.returns-in_default
@@ -41,15 +41,15 @@ returns-in_default c =
     cannot-fill _ _ _ (λ way. none-ne-some _ (sym way.taken ∙ measured-refused _ c.measure.ensures c.in_default.is))
 
 pub overflow_mul-z : goal.overflow_mul-z
-overflow_mul-z c = record { fits = omega (arith, mul-le-mul (few (goal.at.overflow_mul-z c).In-Accepted).n-most (few (goal.at.overflow_mul-z c).In-Accepted).l-most) }
+overflow_mul-z c = record { fits = omega (arith, mul-le-mul (few (goal.at.overflow_mul-z c).In-Ok).n-most (few (goal.at.overflow_mul-z c).In-Ok).l-most) }
 
 pub returns-then-stripe-z : goal.returns-then-stripe-z
-returns-then-stripe-z c = cannot-fill _ _ _ (λ way. c.if-stripe-z.true (way.exact ∙ sym (stripe-end (goal.at.returns-then-stripe-z c).In-Accepted)))
+returns-then-stripe-z c = cannot-fill _ _ _ (λ way. c.if-stripe-z.true (way.exact ∙ sym (stripe-end (goal.at.returns-then-stripe-z c).In-Ok)))
 
 -- what is counted, of the shape's nodes
 counted : (c : After-count_of-count) → c.count_of-count.result ≡ count c.args.shape.n (chosen c.args.flags)
 counted c =
-    c.count_of-count.ensures.value ∙ ap (λ n. count n (chosen c.args.flags)) (sizes (goal.at.After-count_of-count c).In-Accepted).n-is
+    c.count_of-count.ensures.value ∙ ap (λ n. count n (chosen c.args.flags)) (sizes (goal.at.After-count_of-count c).In-Ok).n-is
 
 all-below : (n : ℕ) (flags : List Bool) → n ≤ 16 → NoneFrom n flags → count 16 (chosen flags) ≡ count n (chosen flags)
 all-below n flags h none = count-beyond n 16 (chosen flags) none h
@@ -61,21 +61,21 @@ returns-then-count-count_of c =
       c.if-count-count_of.true,
       counted (goal.at.returns-then-count-count_of c).After-count_of-count,
       c.count_of.ensures.value,
-      all-below c.args.shape.n c.args.flags (omega (arith, (few (goal.at.returns-then-count-count_of c).In-Accepted).n-most, (sizes (goal.at.returns-then-count-count_of c).In-Accepted).n-is)) way.none_above,
+      all-below c.args.shape.n c.args.flags (omega (arith, (few (goal.at.returns-then-count-count_of c).In-Ok).n-most, (sizes (goal.at.returns-then-count-count_of c).In-Ok).n-is)) way.none_above,
     ))
 
 pub returns-then-z-count : goal.returns-then-z-count
 returns-then-z-count c =
-    cannot-fill _ _ _ (λ way. omega (arith, c.if-z-count.true, counted (goal.at.returns-then-z-count c).After-count_of-count, way.few, (sizes (goal.at.returns-then-z-count c).In-Accepted).r-is))
+    cannot-fill _ _ _ (λ way. omega (arith, c.if-z-count.true, counted (goal.at.returns-then-z-count c).After-count_of-count, way.few, (sizes (goal.at.returns-then-z-count c).In-Ok).r-is))
 
 -- past all tests
 fillable : (c : Else-z-count) → Fillable c.args.shape c.args.flags c.args.stripe.now
 fillable c =
     record {
-      taken = (sizes (goal.at.Else-z-count c).In-Accepted).taken;
-      exact = c.if-stripe-z.false ∙ stripe-end (goal.at.Else-z-count c).In-Accepted;
-      none_above = none_from c.args.shape.n c.args.flags (sixteen (goal.at.Else-z-count c).In-Accepted) (omega (arith, c.if-count-count_of.false, counted (goal.at.Else-z-count c).After-count_of-count, c.count_of.ensures.value));
-      few = omega (arith, c.if-z-count.false, counted (goal.at.Else-z-count c).After-count_of-count, (sizes (goal.at.Else-z-count c).In-Accepted).r-is);
+      taken = (sizes (goal.at.Else-z-count c).In-Ok).taken;
+      exact = c.if-stripe-z.false ∙ stripe-end (goal.at.Else-z-count c).In-Ok;
+      none_above = none_from c.args.shape.n c.args.flags (sixteen (goal.at.Else-z-count c).In-Ok) (omega (arith, c.if-count-count_of.false, counted (goal.at.Else-z-count c).After-count_of-count, c.count_of.ensures.value));
+      few = omega (arith, c.if-z-count.false, counted (goal.at.Else-z-count c).After-count_of-count, (sizes (goal.at.Else-z-count c).In-Ok).r-is);
     }
 
 pub correct_levels-requires : goal.correct_levels-requires
@@ -83,7 +83,7 @@ correct_levels-requires c =
     let way = fillable (goal.at.correct_levels-requires c).Else-z-count in
     let same = counted (goal.at.correct_levels-requires c).After-count_of-count in
     record {
-      sizes_are = sizes (goal.at.correct_levels-requires c).In-Accepted;
+      sizes_are = sizes (goal.at.correct_levels-requires c).In-Ok;
       stripe_len = way.exact;
       count_value = (same, omega (arith, same, way.few), way.none_above);
     }

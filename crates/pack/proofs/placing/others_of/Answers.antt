@@ -12,15 +12,15 @@ few : (c : Start) → Small c.args.z
 few c = small c.args.found.shape c.args.z c.requires.sizes_are
 
 -- all n bits
-all-some : (c : Start) → 1 ≤ 2 ^ c.args.z.n
-all-some c = one-le-pow c.args.z.n 2 (omega arith)
+all-some : (c : Start) → 1 ≤ 2 ^ c.args.z.shape.n
+all-some c = one-le-pow c.args.z.shape.n 2 (omega arith)
 
-all_most : (c : Start) → 2 ^ c.args.z.n ≤ 65536
-all_most c = pow-le-pow_right {n = 2} (omega arith) {i = c.args.z.n} {j = 16} (few c).n-most
+all_most : (c : Start) → 2 ^ c.args.z.shape.n ≤ 65536
+all_most c = pow-le-pow_right {n = 2} (omega arith) {i = c.args.z.shape.n} {j = 16} (few c).n-most
 
 -- the shift loses no bit
-all-kept : (c : Start) → 1 * 2 ^ c.args.z.n % 18446744073709551616 ≡ 2 ^ c.args.z.n
-all-kept c = mod-eq_of_lt (omega (arith, all_most c)) ∙ one-mul (2 ^ c.args.z.n)
+all-kept : (c : Start) → 1 * 2 ^ c.args.z.shape.n % 18446744073709551616 ≡ 2 ^ c.args.z.shape.n
+all-kept c = mod-eq_of_lt (omega (arith, all_most c)) ∙ one-mul (2 ^ c.args.z.shape.n)
 
 pub overflow_shl-result : goal.overflow_shl-result
 overflow_shl-result c = omega (arith, (few (goal.at.overflow_shl-result c).Start).n-most)

@@ -21,24 +21,24 @@ use Rattle.pack.specs.declared.answers.Unpacked.TheVariants.{Accepted}
 use Rattle.pack.specs.Kernel.{FoundMeets}
 use Rattle.pack.proofs.Owed.{refused_owed, done_owed}
 use Rattle.pack.proofs.reading.fill_found.Goals as goal
-use Rattle.pack.proofs.reading.fill_found.Goals.{After-copy, After-fill, After-place_columns, In-Accepted}
+use Rattle.pack.proofs.reading.fill_found.Goals.{After-copy, After-fill, After-place_columns, In-Ok}
 
-abbrev size : In-Accepted → Sizes
-size c = c.in-Accepted.z
+abbrev size : In-Ok → Sizes
+size c = c.in-Ok.z
 
-sizes : (c : In-Accepted) → SizesAre c.args.found.shape (size c)
-sizes c = measured-sizes c.args.found.shape c.measure.ensures c.in-Accepted.is
+sizes : (c : In-Ok) → SizesAre c.args.found.shape (size c)
+sizes c = measured-sizes c.args.found.shape c.measure.ensures c.in-Ok.is
 
-few : (c : In-Accepted) → Small (size c)
+few : (c : In-Ok) → Small (size c)
 few c = small c.args.found.shape (size c) (sizes c)
 
-abbrev end : In-Accepted → ℕ
-end c = (size c).n * (size c).l
+abbrev end : In-Ok → ℕ
+end c = (size c).shape.n * (size c).l
 
-end-most : (c : In-Accepted) → end c ≤ 4096
+end-most : (c : In-Ok) → end c ≤ 4096
 end-most c = mul-le-mul (few c).n-most (few c).l-most
 
-end_is : (c : In-Accepted) → end c ≡ stripe_length c.args.found.shape
+end_is : (c : In-Ok) → end c ≡ stripe_length c.args.found.shape
 end_is c = stripe-is c.args.found.shape (size c) (sizes c)
 
 -- the layout is read, so the shape is accepted
@@ -51,58 +51,58 @@ pub others_of-lost-requires : goal.others_of-lost-requires
 others_of-lost-requires c =
     let found = c.args.found in
     record {
-      sizes_are = sizes (goal.at.others_of-lost-requires c).In-Accepted;
-      held_bound = subst (λ n. found.held < 2 ^ n) (sym (sizes (goal.at.others_of-lost-requires c).In-Accepted).n-is) (lost-below found.shape found.held c.requires.layout_is.inside);
+      sizes_are = sizes (goal.at.others_of-lost-requires c).In-Ok;
+      held_bound = subst (λ n. found.held < 2 ^ n) (sym (sizes (goal.at.others_of-lost-requires c).In-Ok).n-is) (lost-below found.shape found.held c.requires.layout_is.inside);
     }
 
 pub overflow_mul-end : goal.overflow_mul-end
-overflow_mul-end c = record { fits = omega (arith, end-most (goal.at.overflow_mul-end c).In-Accepted) }
+overflow_mul-end c = record { fits = omega (arith, end-most (goal.at.overflow_mul-end c).In-Ok) }
 
 pub slice_bounds-scratch-end : goal.slice_bounds-scratch-end
-slice_bounds-scratch-end c = end-most (goal.at.slice_bounds-scratch-end c).In-Accepted
+slice_bounds-scratch-end c = end-most (goal.at.slice_bounds-scratch-end c).In-Ok
 
 pub slice_bounds-place_columns-end : goal.slice_bounds-place_columns-end
 slice_bounds-place_columns-end c =
-    sym (zeros-length (c.in-Accepted.z.n * c.in-Accepted.z.l) 4096 (end-most (goal.at.slice_bounds-place_columns-end c).In-Accepted))
+    sym (zeros-length (c.in-Ok.z.shape.n * c.in-Ok.z.l) 4096 (end-most (goal.at.slice_bounds-place_columns-end c).In-Ok))
 
 pub place_columns-requires : goal.place_columns-requires
 place_columns-requires c =
     record {
       layout_is = c.requires.layout_is;
-      sizes_are = sizes (goal.at.place_columns-requires c).In-Accepted;
-      stripe_len = zeros-length (c.in-Accepted.z.n * c.in-Accepted.z.l) 4096 (end-most (goal.at.place_columns-requires c).In-Accepted) ∙ end_is (goal.at.place_columns-requires c).In-Accepted;
+      sizes_are = sizes (goal.at.place_columns-requires c).In-Ok;
+      stripe_len = zeros-length (c.in-Ok.z.shape.n * c.in-Ok.z.l) 4096 (end-most (goal.at.place_columns-requires c).In-Ok) ∙ end_is (goal.at.place_columns-requires c).In-Ok;
     }
 
-abbrev rest : In-Accepted → List ℕ
+abbrev rest : In-Ok → List ℕ
 rest c = drop (end c) (replicate 4096 0)
 
 abbrev placed : After-place_columns → List ℕ
 placed c = c.place_columns.new.stripe
 
-placed-length : (c : After-place_columns) → length (placed c) ≡ (c.in-Accepted.z.n * c.in-Accepted.z.l)
-placed-length c = c.place_columns.ensures.same_length ∙ zeros-length (c.in-Accepted.z.n * c.in-Accepted.z.l) 4096 (end-most (goal.at.After-place_columns c).In-Accepted)
+placed-length : (c : After-place_columns) → length (placed c) ≡ (c.in-Ok.z.shape.n * c.in-Ok.z.l)
+placed-length c = c.place_columns.ensures.same_length ∙ zeros-length (c.in-Ok.z.shape.n * c.in-Ok.z.l) 4096 (end-most (goal.at.After-place_columns c).In-Ok)
 
 pub slice_bounds-scratch-end-2 : goal.slice_bounds-scratch-end-2
-slice_bounds-scratch-end-2 c = front_fits c.place_columns.new.stripe (drop (c.in-Accepted.z.n * c.in-Accepted.z.l) (replicate 4096 0)) (c.in-Accepted.z.n * c.in-Accepted.z.l) (placed-length (goal.at.slice_bounds-scratch-end-2 c).After-place_columns)
+slice_bounds-scratch-end-2 c = front_fits c.place_columns.new.stripe (drop (c.in-Ok.z.shape.n * c.in-Ok.z.l) (replicate 4096 0)) (c.in-Ok.z.shape.n * c.in-Ok.z.l) (placed-length (goal.at.slice_bounds-scratch-end-2 c).After-place_columns)
 
 pub slice_bounds-fill-end : goal.slice_bounds-fill-end
-slice_bounds-fill-end c = sym (front_length c.place_columns.new.stripe (drop (c.in-Accepted.z.n * c.in-Accepted.z.l) (replicate 4096 0)) (c.in-Accepted.z.n * c.in-Accepted.z.l) (placed-length (goal.at.slice_bounds-fill-end c).After-place_columns))
+slice_bounds-fill-end c = sym (front_length c.place_columns.new.stripe (drop (c.in-Ok.z.shape.n * c.in-Ok.z.l) (replicate 4096 0)) (c.in-Ok.z.shape.n * c.in-Ok.z.l) (placed-length (goal.at.slice_bounds-fill-end c).After-place_columns))
 
 -- the scratch after it is filled
 abbrev filled : After-fill → List ℕ
 filled c = c.fill.new.stripe
 
-filled-length : (c : After-fill) → length (filled c) ≡ (c.in-Accepted.z.n * c.in-Accepted.z.l)
+filled-length : (c : After-fill) → length (filled c) ≡ (c.in-Ok.z.shape.n * c.in-Ok.z.l)
 filled-length c =
-    c.fill.auto.stripe ∙ front_length c.place_columns.new.stripe (drop (c.in-Accepted.z.n * c.in-Accepted.z.l) (replicate 4096 0)) (c.in-Accepted.z.n * c.in-Accepted.z.l) (placed-length (goal.at.After-fill c).After-place_columns)
+    c.fill.auto.stripe ∙ front_length c.place_columns.new.stripe (drop (c.in-Ok.z.shape.n * c.in-Ok.z.l) (replicate 4096 0)) (c.in-Ok.z.shape.n * c.in-Ok.z.l) (placed-length (goal.at.After-fill c).After-place_columns)
 
 -- the front of the scratch is what was filled
 abbrev after : After-fill → List ℕ
-after c = drop (c.in-Accepted.z.n * c.in-Accepted.z.l) (c.place_columns.new.stripe ++ (drop (c.in-Accepted.z.n * c.in-Accepted.z.l) (replicate 4096 0)))
+after c = drop (c.in-Ok.z.shape.n * c.in-Ok.z.l) (c.place_columns.new.stripe ++ (drop (c.in-Ok.z.shape.n * c.in-Ok.z.l) (replicate 4096 0)))
 
-front-there : (c : After-fill) → ((c.in-Accepted.z.n * c.in-Accepted.z.l) ≤ length (filled c ++ after c)) × (length (take (c.in-Accepted.z.n * c.in-Accepted.z.l) (filled c ++ after c)) ≡ (c.in-Accepted.z.n * c.in-Accepted.z.l))
+front-there : (c : After-fill) → ((c.in-Ok.z.shape.n * c.in-Ok.z.l) ≤ length (filled c ++ after c)) × (length (take (c.in-Ok.z.shape.n * c.in-Ok.z.l) (filled c ++ after c)) ≡ (c.in-Ok.z.shape.n * c.in-Ok.z.l))
 front-there c =
-    (front_fits (filled c) (after c) (c.in-Accepted.z.n * c.in-Accepted.z.l) (filled-length c), front_length (filled c) (after c) (c.in-Accepted.z.n * c.in-Accepted.z.l) (filled-length c))
+    (front_fits (filled c) (after c) (c.in-Ok.z.shape.n * c.in-Ok.z.l) (filled-length c), front_length (filled c) (after c) (c.in-Ok.z.shape.n * c.in-Ok.z.l) (filled-length c))
 
 pub slice_bounds-scratch-end-in-Done : goal.slice_bounds-scratch-end-in-Done
 slice_bounds-scratch-end-in-Done c = omega (arith, (front-there (goal.at.slice_bounds-scratch-end-in-Done c).After-fill).0)
@@ -111,10 +111,10 @@ pub slice_bounds-copy-end : goal.slice_bounds-copy-end
 slice_bounds-copy-end c = omega (arith, (front-there (goal.at.slice_bounds-copy-end c).After-fill).1)
 
 -- the zeros that the columns were put over
-abbrev blank : In-Accepted → List ℕ
+abbrev blank : In-Ok → List ℕ
 blank c = take (end c) (replicate 4096 0)
 
-blank-exact : (c : In-Accepted) → length (blank c) ≡ stripe_length c.args.found.shape
+blank-exact : (c : In-Ok) → length (blank c) ≡ stripe_length c.args.found.shape
 blank-exact c = zeros-length (end c) 4096 (end-most c) ∙ end_is c
 
 lost-is : (c : After-place_columns) → let found = c.args.found in c.others_of-lost.result ≡ others found.shape found.held
@@ -127,24 +127,24 @@ met c {answer} e =
     let sh = c.args.found.shape in
     let lost = c.others_of-lost.result in
     subst (λ set. FillMeets sh set c.place_columns.new.stripe answer (filled c)) (lost-is (goal.at.After-fill c).After-place_columns)
-    (subst (λ list. FillMeets sh lost list answer (filled c)) (take_at c.place_columns.new.stripe (drop (c.in-Accepted.z.n * c.in-Accepted.z.l) (replicate 4096 0)) (c.in-Accepted.z.n * c.in-Accepted.z.l) (placed-length (goal.at.After-fill c).After-place_columns))
-    (subst (λ a. FillMeets sh lost (take (c.in-Accepted.z.n * c.in-Accepted.z.l) (c.place_columns.new.stripe ++ (drop (c.in-Accepted.z.n * c.in-Accepted.z.l) (replicate 4096 0)))) a (filled c)) e c.fill.ensures))
+    (subst (λ list. FillMeets sh lost list answer (filled c)) (take_at c.place_columns.new.stripe (drop (c.in-Ok.z.shape.n * c.in-Ok.z.l) (replicate 4096 0)) (c.in-Ok.z.shape.n * c.in-Ok.z.l) (placed-length (goal.at.After-fill c).After-place_columns))
+    (subst (λ a. FillMeets sh lost (take (c.in-Ok.z.shape.n * c.in-Ok.z.l) (c.place_columns.new.stripe ++ (drop (c.in-Ok.z.shape.n * c.in-Ok.z.l) (replicate 4096 0)))) a (filled c)) e c.fill.ensures))
 
 pub returns-in-Refused : goal.returns-in-Refused
 returns-in-Refused c =
-    refused_owed c.args.found c.args.pack.now c.args.stripe.now (take (c.in-Accepted.z.n * c.in-Accepted.z.l) (replicate 4096 0)) c.place_columns.new.stripe c.requires.layout_is (blank-exact (goal.at.returns-in-Refused c).In-Accepted) c.place_columns.ensures
+    refused_owed c.args.found c.args.pack.now c.args.stripe.now (take (c.in-Ok.z.shape.n * c.in-Ok.z.l) (replicate 4096 0)) c.place_columns.new.stripe c.requires.layout_is (blank-exact (goal.at.returns-in-Refused c).In-Ok) c.place_columns.ensures
     c.in-Refused.q c.fill.new.stripe (met (goal.at.returns-in-Refused c).After-fill c.in-Refused.is)
 
 -- the scratch, and the rest of the lent bytes after it
 later-is : (c : After-copy) → c.copy.new.to ≡ c.fill.new.stripe ++ drop (stripe_length c.args.found.shape) c.args.stripe.now
 later-is c =
     let before = c.args.stripe.now in
-    let front = take (c.in-Accepted.z.n * c.in-Accepted.z.l) (c.fill.new.stripe ++ (drop (c.in-Accepted.z.n * c.in-Accepted.z.l) (c.place_columns.new.stripe ++ (drop (c.in-Accepted.z.n * c.in-Accepted.z.l) (replicate 4096 0))))) in
+    let front = take (c.in-Ok.z.shape.n * c.in-Ok.z.l) (c.fill.new.stripe ++ (drop (c.in-Ok.z.shape.n * c.in-Ok.z.l) (c.place_columns.new.stripe ++ (drop (c.in-Ok.z.shape.n * c.in-Ok.z.l) (replicate 4096 0))))) in
     let written : c.copy.new.to ≡ take (length front) front ++ drop (length front) before =
-    copied-over (omega (arith, (front-there (goal.at.After-copy c).After-fill).1, end-most (goal.at.After-copy c).In-Accepted, c.requires.stripe_len)) c.copy.ensures in
+    copied-over (omega (arith, (front-there (goal.at.After-copy c).After-fill).1, end-most (goal.at.After-copy c).In-Ok, c.requires.stripe_len)) c.copy.ensures in
     written
-    ∙ ap₂ (λ (u v : List ℕ). u ++ v) (take-length front ∙ take_at c.fill.new.stripe (drop (c.in-Accepted.z.n * c.in-Accepted.z.l) (c.place_columns.new.stripe ++ (drop (c.in-Accepted.z.n * c.in-Accepted.z.l) (replicate 4096 0)))) (c.in-Accepted.z.n * c.in-Accepted.z.l) (filled-length (goal.at.After-copy c).After-fill))
-    (ap (λ k. drop k before) ((front-there (goal.at.After-copy c).After-fill).1 ∙ end_is (goal.at.After-copy c).In-Accepted))
+    ∙ ap₂ (λ (u v : List ℕ). u ++ v) (take-length front ∙ take_at c.fill.new.stripe (drop (c.in-Ok.z.shape.n * c.in-Ok.z.l) (c.place_columns.new.stripe ++ (drop (c.in-Ok.z.shape.n * c.in-Ok.z.l) (replicate 4096 0)))) (c.in-Ok.z.shape.n * c.in-Ok.z.l) (filled-length (goal.at.After-copy c).After-fill))
+    (ap (λ k. drop k before) ((front-there (goal.at.After-copy c).After-fill).1 ∙ end_is (goal.at.After-copy c).In-Ok))
 
 -- what is owed, of the values that the code has
 left_as : (found : Found) (pack before : List ℕ) {lost lost' : ℕ} {later later' : List ℕ} → lost ≡ lost' → later ≡ later'
@@ -157,5 +157,5 @@ left_as found pack before {lost} {lost'} {later} e f p =
 pub returns-in-Done : goal.returns-in-Done
 returns-in-Done c =
     left_as c.args.found c.args.pack.now c.args.stripe.now (lost-is (goal.at.returns-in-Done c).After-place_columns) (later-is (goal.at.returns-in-Done c).After-copy)
-    (done_owed c.args.found c.args.pack.now c.args.stripe.now (take (c.in-Accepted.z.n * c.in-Accepted.z.l) (replicate 4096 0)) c.place_columns.new.stripe c.requires.layout_is (blank-exact (goal.at.returns-in-Done c).In-Accepted) c.place_columns.ensures
+    (done_owed c.args.found c.args.pack.now c.args.stripe.now (take (c.in-Ok.z.shape.n * c.in-Ok.z.l) (replicate 4096 0)) c.place_columns.new.stripe c.requires.layout_is (blank-exact (goal.at.returns-in-Done c).In-Ok) c.place_columns.ensures
     c.fill.new.stripe (met (goal.at.returns-in-Done c).After-fill c.in-Done.is))

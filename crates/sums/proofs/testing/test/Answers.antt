@@ -18,21 +18,21 @@ use Rattle.sums.specs.Answer.{FoundAt}
 use Rattle.sums.specs.Refusal.{test_refusal}
 use Rattle.sums.proofs.Summing.{sums-zero, found_from}
 use Rattle.sums.proofs.testing.test.Goals as goal
-use Rattle.sums.proofs.testing.test.Goals.{After-add_all, After-lowest, In-Accepted}
+use Rattle.sums.proofs.testing.test.Goals.{After-add_all, After-lowest, In-Ok}
 
-abbrev size : In-Accepted → Sizes
-size c = c.in-Accepted.z
+abbrev size : In-Ok → Sizes
+size c = c.in-Ok.z
 
-sizes : (c : In-Accepted) → SizesAre c.args.shape (size c)
-sizes c = measured-sizes c.args.shape c.measure.ensures c.in-Accepted.is
+sizes : (c : In-Ok) → SizesAre c.args.shape (size c)
+sizes c = measured-sizes c.args.shape c.measure.ensures c.in-Ok.is
 
-few : (c : In-Accepted) → Small (size c)
+few : (c : In-Ok) → Small (size c)
 few c = small c.args.shape (size c) (sizes c)
 
-few-sums : (c : In-Accepted) → (size c).r * (size c).l ≤ 1024
+few-sums : (c : In-Ok) → (size c).shape.r * (size c).l ≤ 1024
 few-sums c = product_small (few c).r-most (few c).l-most
 
-stripe-end : (c : In-Accepted) → (size c).n * (size c).l ≡ stripe_length c.args.shape
+stripe-end : (c : In-Ok) → (size c).shape.n * (size c).l ≡ stripe_length c.args.shape
 stripe-end c = stripe-is c.args.shape (size c) (sizes c)
 
 pub returns-in_default : goal.returns-in_default
@@ -43,62 +43,62 @@ returns-in_default c =
     }
 
 pub overflow_mul-z : goal.overflow_mul-z
-overflow_mul-z c = record { fits = omega (arith, mul-le-mul (few (goal.at.overflow_mul-z c).In-Accepted).n-most (few (goal.at.overflow_mul-z c).In-Accepted).l-most) }
+overflow_mul-z c = record { fits = omega (arith, mul-le-mul (few (goal.at.overflow_mul-z c).In-Ok).n-most (few (goal.at.overflow_mul-z c).In-Ok).l-most) }
 
 pub returns-then-stripe-z : goal.returns-then-stripe-z
 returns-then-stripe-z c =
-    record { answered = sym (test-length c.args.shape c.args.stripe.now (sizes (goal.at.returns-then-stripe-z c).In-Accepted).taken (λ e. c.if-stripe-z.true (e ∙ sym (stripe-end (goal.at.returns-then-stripe-z c).In-Accepted)))); found = tt }
+    record { answered = sym (test-length c.args.shape c.args.stripe.now (sizes (goal.at.returns-then-stripe-z c).In-Ok).taken (λ e. c.if-stripe-z.true (e ∙ sym (stripe-end (goal.at.returns-then-stripe-z c).In-Ok)))); found = tt }
 
 pub overflow_mul-end : goal.overflow_mul-end
-overflow_mul-end c = record { fits = omega (arith, few-sums (goal.at.overflow_mul-end c).In-Accepted) }
+overflow_mul-end c = record { fits = omega (arith, few-sums (goal.at.overflow_mul-end c).In-Ok) }
 
 pub slice_bounds-sums-end : goal.slice_bounds-sums-end
-slice_bounds-sums-end c = few-sums (goal.at.slice_bounds-sums-end c).In-Accepted
+slice_bounds-sums-end c = few-sums (goal.at.slice_bounds-sums-end c).In-Ok
 
 pub slice_bounds-add_all-end : goal.slice_bounds-add_all-end
-slice_bounds-add_all-end c = sym (zeros-length (c.in-Accepted.z.r * c.in-Accepted.z.l) 1024 (few-sums (goal.at.slice_bounds-add_all-end c).In-Accepted))
+slice_bounds-add_all-end c = sym (zeros-length (c.in-Ok.z.shape.r * c.in-Ok.z.l) 1024 (few-sums (goal.at.slice_bounds-add_all-end c).In-Ok))
 
 pub add_all-requires : goal.add_all-requires
 add_all-requires c =
     record {
-      sizes_are = sizes (goal.at.add_all-requires c).In-Accepted;
-      stripe_len = c.if-stripe-z.false ∙ stripe-end (goal.at.add_all-requires c).In-Accepted;
-      sums_are = sums-zero c.args.shape _ c.in-Accepted.z.r c.in-Accepted.z.l 1024 (sizes (goal.at.add_all-requires c).In-Accepted).r-is (sizes (goal.at.add_all-requires c).In-Accepted).l-is (few-sums (goal.at.add_all-requires c).In-Accepted);
+      sizes_are = sizes (goal.at.add_all-requires c).In-Ok;
+      stripe_len = c.if-stripe-z.false ∙ stripe-end (goal.at.add_all-requires c).In-Ok;
+      sums_are = sums-zero c.args.shape _ c.in-Ok.z.shape.r c.in-Ok.z.l 1024 (sizes (goal.at.add_all-requires c).In-Ok).r-is (sizes (goal.at.add_all-requires c).In-Ok).l-is (few-sums (goal.at.add_all-requires c).In-Ok);
     }
 
 abbrev count : After-add_all → ℕ
-count c = c.in-Accepted.z.r * c.in-Accepted.z.l
+count c = c.in-Ok.z.shape.r * c.in-Ok.z.l
 
 sums-exact : (c : After-add_all) → length c.add_all.new.sums ≡ count c
-sums-exact c = c.add_all.ensures.all ∙ ap₂ (λ r l. r * l) (sym (sizes (goal.at.After-add_all c).In-Accepted).r-is) (sym (sizes (goal.at.After-add_all c).In-Accepted).l-is)
+sums-exact c = c.add_all.ensures.all ∙ ap₂ (λ r l. r * l) (sym (sizes (goal.at.After-add_all c).In-Ok).r-is) (sym (sizes (goal.at.After-add_all c).In-Ok).l-is)
 
 abbrev rest : After-add_all → List ℕ
 rest c = drop (count c) (replicate 1024 0)
 
 pub slice_bounds-sums-end-2 : goal.slice_bounds-sums-end-2
-slice_bounds-sums-end-2 c = front_fits c.add_all.new.sums (drop (c.in-Accepted.z.r * c.in-Accepted.z.l) (replicate 1024 0)) (c.in-Accepted.z.r * c.in-Accepted.z.l) (sums-exact (goal.at.slice_bounds-sums-end-2 c).After-add_all)
+slice_bounds-sums-end-2 c = front_fits c.add_all.new.sums (drop (c.in-Ok.z.shape.r * c.in-Ok.z.l) (replicate 1024 0)) (c.in-Ok.z.shape.r * c.in-Ok.z.l) (sums-exact (goal.at.slice_bounds-sums-end-2 c).After-add_all)
 
 pub slice_bounds-lowest-end : goal.slice_bounds-lowest-end
-slice_bounds-lowest-end c = sym (front_length c.add_all.new.sums (drop (c.in-Accepted.z.r * c.in-Accepted.z.l) (replicate 1024 0)) (c.in-Accepted.z.r * c.in-Accepted.z.l) (sums-exact (goal.at.slice_bounds-lowest-end c).After-add_all))
+slice_bounds-lowest-end c = sym (front_length c.add_all.new.sums (drop (c.in-Ok.z.shape.r * c.in-Ok.z.l) (replicate 1024 0)) (c.in-Ok.z.shape.r * c.in-Ok.z.l) (sums-exact (goal.at.slice_bounds-lowest-end c).After-add_all))
 
 pub lowest-requires : goal.lowest-requires
 lowest-requires c =
     record {
-      r_bound = ((few (goal.at.lowest-requires c).In-Accepted).r-most, (few (goal.at.lowest-requires c).In-Accepted).l-most);
-      sums_len = front_length c.add_all.new.sums (drop (c.in-Accepted.z.r * c.in-Accepted.z.l) (replicate 1024 0)) (c.in-Accepted.z.r * c.in-Accepted.z.l) (sums-exact (goal.at.lowest-requires c).After-add_all);
+      r_bound = ((few (goal.at.lowest-requires c).In-Ok).r-most, (few (goal.at.lowest-requires c).In-Ok).l-most);
+      sums_len = front_length c.add_all.new.sums (drop (c.in-Ok.z.shape.r * c.in-Ok.z.l) (replicate 1024 0)) (c.in-Ok.z.shape.r * c.in-Ok.z.l) (sums-exact (goal.at.lowest-requires c).After-add_all);
     }
 
 -- nothing is refused
 taken : (c : After-add_all) → test_refusal c.args.shape c.args.stripe.now ≡ none
 taken c =
-    test-accepted c.args.shape c.args.stripe.now (sizes (goal.at.After-add_all c).In-Accepted).taken
-    (c.if-stripe-z.false ∙ stripe-end (goal.at.After-add_all c).In-Accepted)
+    test-accepted c.args.shape c.args.stripe.now (sizes (goal.at.After-add_all c).In-Ok).taken
+    (c.if-stripe-z.false ∙ stripe-end (goal.at.After-add_all c).In-Ok)
 
 found : (c : After-lowest) → FoundAt c.args.shape c.args.stripe.now c.lowest.result
 found c =
-    found_from c.args.shape c.args.stripe.now c.add_all.new.sums (drop (c.in-Accepted.z.r * c.in-Accepted.z.l) (replicate 1024 0)) c.in-Accepted.z.r c.in-Accepted.z.l c.lowest.result
-    (sizes (goal.at.After-lowest c).In-Accepted).r-is
-    (sizes (goal.at.After-lowest c).In-Accepted).l-is
+    found_from c.args.shape c.args.stripe.now c.add_all.new.sums (drop (c.in-Ok.z.shape.r * c.in-Ok.z.l) (replicate 1024 0)) c.in-Ok.z.shape.r c.in-Ok.z.l c.lowest.result
+    (sizes (goal.at.After-lowest c).In-Ok).r-is
+    (sizes (goal.at.After-lowest c).In-Ok).l-is
     (sums-exact (goal.at.After-lowest c).After-add_all)
     c.add_all.ensures
     c.lowest.ensures

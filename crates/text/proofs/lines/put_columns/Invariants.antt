@@ -4,7 +4,7 @@ use Rattle.text.proofs.Turns.{NodesPut}
 use Rattle.text.proofs.lines.put_columns.Given as goal
 
 abbrev pub invariant-loop-i : goal.invariant-loop-i
-invariant-loop-i l = NodesPut (column_line l.shape l.stripe) l.z.n l.set l.at l.initial.text l.i l.text l.stop
+invariant-loop-i l = NodesPut (column_line l.shape l.stripe) l.z.shape.n l.set l.at l.initial.text l.i l.text l.stop
 
 abbrev pub decreases-loop-i : goal.decreases-loop-i
-decreases-loop-i l = l.z.n - l.i
+decreases-loop-i l = l.z.shape.n - l.i

@@ -19,12 +19,12 @@ few : (c : In-loop-i) → c.loop-i.i < 16
 few c = omega (arith, c.loop-i-test.true, c.requires.sizes_are.n-is, (bounds c.args.shape c.requires.sizes_are.taken).n-most)
 
 -- what is to be put, by its nodes
-nodes-are : (c : Start) → spaced_all (nodes_of c.args.shape c.args.set) ≡ flat_map spaced (nodes_to c.args.set c.args.z.n)
+nodes-are : (c : Start) → spaced_all (nodes_of c.args.shape c.args.set) ≡ flat_map spaced (nodes_to c.args.set c.args.z.shape.n)
 nodes-are c =
     all-spaced (nodes_of c.args.shape c.args.set)
-    ∙ ap (flat_map spaced) (nodes_to_lem c.args.shape c.args.set c.args.z.n c.requires.sizes_are.n-is)
+    ∙ ap (flat_map spaced) (nodes_to_lem c.args.shape c.args.set c.args.z.shape.n c.requires.sizes_are.n-is)
 
-all_fit : (c : Start) → Fits c.args.at (flat_map spaced (nodes_to c.args.set c.args.z.n)) c.args.text.now
+all_fit : (c : Start) → Fits c.args.at (flat_map spaced (nodes_to c.args.set c.args.z.shape.n)) c.args.text.now
 all_fit c = rw (nodes-are c) at c.requires.fits
 
 pub loop-i-init : goal.loop-i-init

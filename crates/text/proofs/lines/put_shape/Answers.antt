@@ -13,10 +13,10 @@ use Rattle.text.proofs.lines.put_shape.Goals.{After-put, After-put_number-l, Aft
 
 -- the line up to n, up to r, up to l
 abbrev to_n : Sizes → List ℕ
-to_n z = letters "shape" ++ spaced z.n
+to_n z = letters "shape" ++ spaced z.shape.n
 
 abbrev to_r : Sizes → List ℕ
-to_r z = to_n z ++ spaced z.r
+to_r z = to_n z ++ spaced z.shape.r
 
 abbrev to_l : Sizes → List ℕ
 to_l z = to_r z ++ spaced z.l
@@ -32,7 +32,7 @@ r-fits : (c : Start) → Fits 0 (to_r c.args.z) c.args.text.now
 r-fits c = fits-first 0 (to_r c.args.z) (spaced c.args.z.l) c.args.text.now (l-fits c)
 
 n-fits : (c : Start) → Fits 0 (to_n c.args.z) c.args.text.now
-n-fits c = fits-first 0 (to_n c.args.z) (spaced c.args.z.r) c.args.text.now (r-fits c)
+n-fits c = fits-first 0 (to_n c.args.z) (spaced c.args.z.shape.r) c.args.text.now (r-fits c)
 
 -- what is put
 n-put : (c : After-put_number-n) → Put 0 (to_n c.args.z) c.args.text.now c.put_number-n.new.text c.put_number-n.result
@@ -40,7 +40,7 @@ n-put c = put_then (letters "shape") (spaced _) (n-fits (goal.at.After-put_numbe
 
 r-put : (c : After-put_number-r) → Put 0 (to_r c.args.z) c.args.text.now c.put_number-r.new.text c.put_number-r.result
 r-put c =
-    put_then (to_n c.args.z) (spaced c.args.z.r) (r-fits (goal.at.After-put_number-r c).Start) (n-put (goal.at.After-put_number-r c).After-put_number-n) c.put_number-r.ensures
+    put_then (to_n c.args.z) (spaced c.args.z.shape.r) (r-fits (goal.at.After-put_number-r c).Start) (n-put (goal.at.After-put_number-r c).After-put_number-n) c.put_number-r.ensures
 
 l-put : (c : After-put_number-l) → Put 0 (to_l c.args.z) c.args.text.now c.put_number-l.new.text c.put_number-l.result
 l-put c =
@@ -55,7 +55,7 @@ shape-bounds c = bounds c.args.shape c.requires.sizes_are.taken
 
 pub put-word-requires : goal.put-word-requires
 put-word-requires c =
-    fits-first 0 (letters "shape") (spaced c.args.z.n) c.args.text.now (n-fits (goal.at.put-word-requires c).Start)
+    fits-first 0 (letters "shape") (spaced c.args.z.shape.n) c.args.text.now (n-fits (goal.at.put-word-requires c).Start)
 
 pub put_number-n-requires : goal.put_number-n-requires
 put_number-n-requires c =
@@ -68,7 +68,7 @@ pub put_number-r-requires : goal.put_number-r-requires
 put_number-r-requires c =
     record {
       x_bound = omega (arith, (shape-bounds (goal.at.put_number-r-requires c).Start).r-most, c.requires.sizes_are.r-is);
-      fits = fits-rest (to_n c.args.z) (spaced c.args.z.r) (r-fits (goal.at.put_number-r-requires c).Start) (n-put (goal.at.put_number-r-requires c).After-put_number-n);
+      fits = fits-rest (to_n c.args.z) (spaced c.args.z.shape.r) (r-fits (goal.at.put_number-r-requires c).Start) (n-put (goal.at.put_number-r-requires c).After-put_number-n);
     }
 
 pub put_number-l-requires : goal.put_number-l-requires

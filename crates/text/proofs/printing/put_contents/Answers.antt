@@ -18,7 +18,7 @@ use Rattle.text.proofs.Puts.{fits-first, fits-rest, put_then}
 use Rattle.text.proofs.Refusals.{Taken, contents-shape, contents_bit, contents-many, taken→none}
 use Rattle.text.proofs.Lengths.{refused-most, read-most}
 use Rattle.text.proofs.printing.put_contents.Goals as goal
-use Rattle.text.proofs.printing.put_contents.Goals.{After-put_lost-second, Else-z-lost, In-Accepted, Start}
+use Rattle.text.proofs.printing.put_contents.Goals.{After-put_lost-second, Else-z-lost, In-Ok, Start}
 
 -- the text up to the second line, and the columns
 abbrev two_lines : Contents → List ℕ
@@ -36,36 +36,36 @@ refused-put : (contents : Contents) (stripe : List ℕ) {q stop : ℕ} {before l
     → Put 0 (refused_line q) before later stop → Put 0 (contents_text (contents_refusal contents) contents stripe) before later stop
 refused-put contents stripe e put = rw e put
 
-abbrev size : In-Accepted → Sizes
-size c = c.in-Accepted.z
+abbrev size : In-Ok → Sizes
+size c = c.in-Ok.z
 
-abbrev contents-of : In-Accepted → Contents
+abbrev contents-of : In-Ok → Contents
 contents-of c = c.args.contents
 
-sizes : (c : In-Accepted) → SizesAre (contents-of c).shape (size c)
-sizes c = measured-sizes (contents-of c).shape c.measure.ensures c.in-Accepted.is
+sizes : (c : In-Ok) → SizesAre (contents-of c).shape (size c)
+sizes c = measured-sizes (contents-of c).shape c.measure.ensures c.in-Ok.is
 
-few : (c : In-Accepted) → Small (size c)
+few : (c : In-Ok) → Small (size c)
 few c = small (contents-of c).shape (size c) (sizes c)
 
 -- the tests, as the rules have them
-bits-end : (c : In-Accepted) → (contents-of c).lost / 2 ^ (size c).n ≡ 0 → (contents-of c).lost / 2 ^ (contents-of c).shape.n ≡ 0
+bits-end : (c : In-Ok) → (contents-of c).lost / 2 ^ (size c).shape.n ≡ 0 → (contents-of c).lost / 2 ^ (contents-of c).shape.n ≡ 0
 bits-end c e = ap (λ n. (contents-of c).lost / 2 ^ n) (sym (sizes c).n-is) ∙ e
 
-more-than : (c : In-Accepted) → (size c).r < ones (contents-of c).lost → (contents-of c).shape.r < lost_count (contents-of c).lost
+more-than : (c : In-Ok) → (size c).shape.r < ones (contents-of c).lost → (contents-of c).shape.r < lost_count (contents-of c).lost
 unfolding lost_count
 more-than c h = omega (arith, h, (sizes c).r-is)
 
-at_most : (c : In-Accepted) → ones (contents-of c).lost ≤ (size c).r → lost_count (contents-of c).lost ≤ (contents-of c).shape.r
+at_most : (c : In-Ok) → ones (contents-of c).lost ≤ (size c).shape.r → lost_count (contents-of c).lost ≤ (contents-of c).shape.r
 unfolding lost_count
 at_most c h = omega (arith, h, (sizes c).r-is)
 
 taken : (c : Else-z-lost) → Taken c.args.contents
 taken c =
     record {
-      shape = (sizes (goal.at.Else-z-lost c).In-Accepted).taken;
-      none_above = no_bit_above c.args.contents.shape c.args.contents.lost (bits-end (goal.at.Else-z-lost c).In-Accepted c.if-lost-z-ne0.false);
-      few = at_most (goal.at.Else-z-lost c).In-Accepted c.if-z-lost.false;
+      shape = (sizes (goal.at.Else-z-lost c).In-Ok).taken;
+      none_above = no_bit_above c.args.contents.shape c.args.contents.lost (bits-end (goal.at.Else-z-lost c).In-Ok c.if-lost-z-ne0.false);
+      few = at_most (goal.at.Else-z-lost c).In-Ok c.if-z-lost.false;
     }
 
 -- what fits
@@ -95,7 +95,7 @@ returns-in_default c =
     c.put_refused.ensures
 
 pub overflow_shr-lost : goal.overflow_shr-lost
-overflow_shr-lost c = omega (arith, (few (goal.at.overflow_shr-lost c).In-Accepted).n-most)
+overflow_shr-lost c = omega (arith, (few (goal.at.overflow_shr-lost c).In-Ok).n-most)
 
 pub put_refused-requires-then-lost-z-ne0 : goal.put_refused-requires-then-lost-z-ne0
 put_refused-requires-then-lost-z-ne0 c = refused-fits (goal.at.put_refused-requires-then-lost-z-ne0 c).Start 3
@@ -103,20 +103,20 @@ put_refused-requires-then-lost-z-ne0 c = refused-fits (goal.at.put_refused-requi
 pub returns-then-lost-z-ne0 : goal.returns-then-lost-z-ne0
 returns-then-lost-z-ne0 c =
     refused-put _ _
-    (contents_bit c.args.contents (sizes (goal.at.returns-then-lost-z-ne0 c).In-Accepted).taken (λ e. c.if-lost-z-ne0.true (ap (λ n. c.args.contents.lost / 2 ^ n) (sizes (goal.at.returns-then-lost-z-ne0 c).In-Accepted).n-is ∙ e)))
+    (contents_bit c.args.contents (sizes (goal.at.returns-then-lost-z-ne0 c).In-Ok).taken (λ e. c.if-lost-z-ne0.true (ap (λ n. c.args.contents.lost / 2 ^ n) (sizes (goal.at.returns-then-lost-z-ne0 c).In-Ok).n-is ∙ e)))
     c.put_refused-then-lost-z-ne0.ensures
 
 pub overflow_cast-lost-2 : goal.overflow_cast-lost-2
 overflow_cast-lost-2 c =
     let contents = c.args.contents in
-    let below = lost-below contents.shape contents.lost (no_bit_above contents.shape contents.lost (bits-end (goal.at.overflow_cast-lost-2 c).In-Accepted c.if-lost-z-ne0.false)) in
+    let below = lost-below contents.shape contents.lost (no_bit_above contents.shape contents.lost (bits-end (goal.at.overflow_cast-lost-2 c).In-Ok c.if-lost-z-ne0.false)) in
     record {
       fits =
           omega (
             arith,
             ones-le contents.shape.n contents.lost below,
-            (sizes (goal.at.overflow_cast-lost-2 c).In-Accepted).n-is,
-            (few (goal.at.overflow_cast-lost-2 c).In-Accepted).n-most,
+            (sizes (goal.at.overflow_cast-lost-2 c).In-Ok).n-is,
+            (few (goal.at.overflow_cast-lost-2 c).In-Ok).n-most,
           );
     }
 
@@ -126,28 +126,28 @@ put_refused-requires-then-z-lost c = refused-fits (goal.at.put_refused-requires-
 pub returns-then-z-lost : goal.returns-then-z-lost
 returns-then-z-lost c =
     refused-put _ _
-    (contents-many c.args.contents (sizes (goal.at.returns-then-z-lost c).In-Accepted).taken (bits-end (goal.at.returns-then-z-lost c).In-Accepted c.if-lost-z-ne0.false) (more-than (goal.at.returns-then-z-lost c).In-Accepted c.if-z-lost.true))
+    (contents-many c.args.contents (sizes (goal.at.returns-then-z-lost c).In-Ok).taken (bits-end (goal.at.returns-then-z-lost c).In-Ok c.if-lost-z-ne0.false) (more-than (goal.at.returns-then-z-lost c).In-Ok c.if-z-lost.true))
     c.put_refused-then-z-lost.ensures
 
 pub put_shape-first-requires : goal.put_shape-first-requires
 put_shape-first-requires c =
     let sh = c.args.contents.shape in
     record {
-      sizes_are = sizes (goal.at.put_shape-first-requires c).In-Accepted;
+      sizes_are = sizes (goal.at.put_shape-first-requires c).In-Ok;
       fits = fits-first 0 (shape_line sh) (lost_line sh c.args.contents.lost) c.args.text.now (two-fit (goal.at.put_shape-first-requires c).Else-z-lost);
     }
 
 pub put_lost-second-requires : goal.put_lost-second-requires
 put_lost-second-requires c =
     record {
-      sizes_are = sizes (goal.at.put_lost-second-requires c).In-Accepted;
+      sizes_are = sizes (goal.at.put_lost-second-requires c).In-Ok;
       fits = fits-rest (shape_line _) (lost_line _ _) (two-fit (goal.at.put_lost-second-requires c).Else-z-lost) c.put_shape-first.ensures;
     }
 
 pub put_columns-requires : goal.put_columns-requires
 put_columns-requires c =
     record {
-      sizes_are = sizes (goal.at.put_columns-requires c).In-Accepted;
+      sizes_are = sizes (goal.at.put_columns-requires c).In-Ok;
       stripe_len = c.requires.stripe_len;
       fits = fits-rest (two_lines c.args.contents) (columns c.args.contents c.args.stripe.now) (all-fits (goal.at.put_columns-requires c).Else-z-lost) (two-put (goal.at.put_columns-requires c).After-put_lost-second);
     }

@@ -22,7 +22,7 @@ use Rattle.rules.proofs.Lengths.{stripe-is, data_is, stripe-most, data_most}
 use Rattle.yebarg.proofs.Lists.{cleared_zeros, laid-over}
 use Rattle.yebarg.proofs.Refusals.{lay-shape, lay-long, lay-length, lay-accepted, refused_keeps, accepted_writes}
 use Rattle.yebarg.proofs.records.lay.Goals as goal
-use Rattle.yebarg.proofs.records.lay.Goals.{After-copy, In-Accepted}
+use Rattle.yebarg.proofs.records.lay.Goals.{After-copy, In-Ok}
 
 refused : {sh : Shape} {rec stripe : List ℕ} {q : ℕ} → lay_refusal sh rec stripe ≡ some q → LayMeets sh rec stripe (Refused q) stripe
 refused {sh} {rec} {stripe} {q} e = record { answered = sym e; stripe-later = refused_keeps (laid sh rec stripe) stripe q e }
@@ -46,16 +46,16 @@ laid_in_parts sh rec stripe {copied} {part} {at} {end} at-is end_is h copied_is 
         cleared_zeros cleared
         ∙ ap (λ k. replicate k 0) (length-take-le (end - at) (drop at copied) (omega (arith, length-drop at copied, end_is, fits)))
 
-sizes : (c : In-Accepted) → SizesAre c.args.shape c.in-Accepted.z
-sizes c = measured-sizes c.args.shape c.measure.ensures c.in-Accepted.is
+sizes : (c : In-Ok) → SizesAre c.args.shape c.in-Ok.z
+sizes c = measured-sizes c.args.shape c.measure.ensures c.in-Ok.is
 
-data-end : (c : In-Accepted) → c.in-Accepted.z.k * c.in-Accepted.z.l ≡ data_length c.args.shape
-data-end c = data_is c.args.shape c.in-Accepted.z (sizes c)
+data-end : (c : In-Ok) → c.in-Ok.z.k * c.in-Ok.z.l ≡ data_length c.args.shape
+data-end c = data_is c.args.shape c.in-Ok.z (sizes c)
 
-stripe-end : (c : In-Accepted) → c.in-Accepted.z.n * c.in-Accepted.z.l ≡ stripe_length c.args.shape
-stripe-end c = stripe-is c.args.shape c.in-Accepted.z (sizes c)
+stripe-end : (c : In-Ok) → c.in-Ok.z.shape.n * c.in-Ok.z.l ≡ stripe_length c.args.shape
+stripe-end c = stripe-is c.args.shape c.in-Ok.z (sizes c)
 
-small : (c : In-Accepted) → stripe_length c.args.shape ≤ 4096
+small : (c : In-Ok) → stripe_length c.args.shape ≤ 4096
 small c = stripe-most c.args.shape (bounds c.args.shape (sizes c).taken)
 
 pub returns-in_default : goal.returns-in_default
@@ -63,46 +63,46 @@ returns-in_default c = refused (lay-shape _ _ _ (measured-refused _ c.measure.en
 
 pub overflow_mul-end : goal.overflow_mul-end
 overflow_mul-end c =
-    record { fits = omega (arith, data-end (goal.at.overflow_mul-end c).In-Accepted, data_most c.args.shape, small (goal.at.overflow_mul-end c).In-Accepted) }
+    record { fits = omega (arith, data-end (goal.at.overflow_mul-end c).In-Ok, data_most c.args.shape, small (goal.at.overflow_mul-end c).In-Ok) }
 
 pub returns-then-end-rec : goal.returns-then-end-rec
 returns-then-end-rec c =
-    refused (lay-long _ _ _ (sizes (goal.at.returns-then-end-rec c).In-Accepted).taken (omega (arith, data-end (goal.at.returns-then-end-rec c).In-Accepted, c.if-end-rec.true)))
+    refused (lay-long _ _ _ (sizes (goal.at.returns-then-end-rec c).In-Ok).taken (omega (arith, data-end (goal.at.returns-then-end-rec c).In-Ok, c.if-end-rec.true)))
 
 pub overflow_mul-z : goal.overflow_mul-z
 overflow_mul-z c =
-    record { fits = omega (arith, stripe-end (goal.at.overflow_mul-z c).In-Accepted, small (goal.at.overflow_mul-z c).In-Accepted) }
+    record { fits = omega (arith, stripe-end (goal.at.overflow_mul-z c).In-Ok, small (goal.at.overflow_mul-z c).In-Ok) }
 
 pub returns-then-stripe-z : goal.returns-then-stripe-z
 returns-then-stripe-z c =
     refused
-    (lay-length _ _ _ (sizes (goal.at.returns-then-stripe-z c).In-Accepted).taken (omega (arith, data-end (goal.at.returns-then-stripe-z c).In-Accepted, c.if-end-rec.false)) (λ e. c.if-stripe-z.true (e ∙ sym (stripe-end (goal.at.returns-then-stripe-z c).In-Accepted))))
+    (lay-length _ _ _ (sizes (goal.at.returns-then-stripe-z c).In-Ok).taken (omega (arith, data-end (goal.at.returns-then-stripe-z c).In-Ok, c.if-end-rec.false)) (λ e. c.if-stripe-z.true (e ∙ sym (stripe-end (goal.at.returns-then-stripe-z c).In-Ok))))
 
 -- the record ends within the stripe
 record-within : (c : After-copy) → length c.args.rec.now ≤ length c.args.stripe.now
 record-within c =
-    omega (arith, data-end (goal.at.After-copy c).In-Accepted, stripe-end (goal.at.After-copy c).In-Accepted, data_most c.args.shape, c.if-stripe-z.false, c.if-end-rec.false)
+    omega (arith, data-end (goal.at.After-copy c).In-Ok, stripe-end (goal.at.After-copy c).In-Ok, data_most c.args.shape, c.if-stripe-z.false, c.if-end-rec.false)
 
 -- the data columns end within what is copied
 data-within : (c : After-copy) → data_length c.args.shape ≤ length c.copy.new.to
 data-within c =
-    omega (arith, stripe-end (goal.at.After-copy c).In-Accepted, data_most c.args.shape, c.copy.auto.to, c.if-stripe-z.false)
+    omega (arith, stripe-end (goal.at.After-copy c).In-Ok, data_most c.args.shape, c.copy.auto.to, c.if-stripe-z.false)
 
 pub slice_bounds-clear-end : goal.slice_bounds-clear-end
 slice_bounds-clear-end c =
-    omega (arith, data-end (goal.at.slice_bounds-clear-end c).In-Accepted, data-within (goal.at.slice_bounds-clear-end c).After-copy, c.if-end-rec.false)
+    omega (arith, data-end (goal.at.slice_bounds-clear-end c).In-Ok, data-within (goal.at.slice_bounds-clear-end c).After-copy, c.if-end-rec.false)
 
 pub returns : goal.returns
 returns c =
-    let short : length c.args.rec.now ≤ data_length c.args.shape = omega (arith, data-end (goal.at.returns c).In-Accepted, c.if-end-rec.false) in
-    let e = lay-accepted c.args.shape c.args.rec.now c.args.stripe.now (sizes (goal.at.returns c).In-Accepted).taken short (c.if-stripe-z.false ∙ stripe-end (goal.at.returns c).In-Accepted) in
+    let short : length c.args.rec.now ≤ data_length c.args.shape = omega (arith, data-end (goal.at.returns c).In-Ok, c.if-end-rec.false) in
+    let e = lay-accepted c.args.shape c.args.rec.now c.args.stripe.now (sizes (goal.at.returns c).In-Ok).taken short (c.if-stripe-z.false ∙ stripe-end (goal.at.returns c).In-Ok) in
     record {
       answered = sym e;
       stripe-later =
           accepted_writes c.args.stripe.now e
           (laid_in_parts c.args.shape c.args.rec.now c.args.stripe.now
           refl
-          (data-end (goal.at.returns c).In-Accepted)
+          (data-end (goal.at.returns c).In-Ok)
           short
           (copied-over (record-within (goal.at.returns c).After-copy) c.copy.ensures)
           (data-within (goal.at.returns c).After-copy)

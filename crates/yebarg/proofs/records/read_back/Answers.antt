@@ -21,53 +21,53 @@ use Rattle.rules.proofs.Lengths.{stripe-is, data_is, stripe-most, data_most}
 use Rattle.yebarg.proofs.Lists.{copied-whole}
 use Rattle.yebarg.proofs.Refusals.{read-back-shape, read-back-stripe, read-back_buffer, read-back-accepted, refused_keeps, accepted_writes}
 use Rattle.yebarg.proofs.records.read_back.Goals as goal
-use Rattle.yebarg.proofs.records.read_back.Goals.{Else-buffer-size, In-Accepted}
+use Rattle.yebarg.proofs.records.read_back.Goals.{Else-buffer-size, In-Ok}
 
 refused : {sh : Shape} {stripe buffer : List ℕ} {q : ℕ} → read_back_refusal sh stripe buffer ≡ some q → ReadBackMeets sh stripe buffer (Refused q) buffer
 refused {sh} {stripe} {buffer} {q} e = record { answered = sym e; buffer_later = refused_keeps (read_back sh stripe) buffer q e }
 
-sizes : (c : In-Accepted) → SizesAre c.args.shape c.in-Accepted.z
-sizes c = measured-sizes c.args.shape c.measure.ensures c.in-Accepted.is
+sizes : (c : In-Ok) → SizesAre c.args.shape c.in-Ok.z
+sizes c = measured-sizes c.args.shape c.measure.ensures c.in-Ok.is
 
-data-end : (c : In-Accepted) → c.in-Accepted.z.k * c.in-Accepted.z.l ≡ data_length c.args.shape
-data-end c = data_is c.args.shape c.in-Accepted.z (sizes c)
+data-end : (c : In-Ok) → c.in-Ok.z.k * c.in-Ok.z.l ≡ data_length c.args.shape
+data-end c = data_is c.args.shape c.in-Ok.z (sizes c)
 
-stripe-end : (c : In-Accepted) → c.in-Accepted.z.n * c.in-Accepted.z.l ≡ stripe_length c.args.shape
-stripe-end c = stripe-is c.args.shape c.in-Accepted.z (sizes c)
+stripe-end : (c : In-Ok) → c.in-Ok.z.shape.n * c.in-Ok.z.l ≡ stripe_length c.args.shape
+stripe-end c = stripe-is c.args.shape c.in-Ok.z (sizes c)
 
-small : (c : In-Accepted) → stripe_length c.args.shape ≤ 4096
+small : (c : In-Ok) → stripe_length c.args.shape ≤ 4096
 small c = stripe-most c.args.shape (bounds c.args.shape (sizes c).taken)
 
-sizes-small : (c : In-Accepted) → Small c.in-Accepted.z
-sizes-small c = measures.small c.args.shape c.in-Accepted.z (sizes c)
+sizes-small : (c : In-Ok) → Small c.in-Ok.z
+sizes-small c = measures.small c.args.shape c.in-Ok.z (sizes c)
 
 pub returns-in_default : goal.returns-in_default
 returns-in_default c = refused (read-back-shape _ _ _ (measured-refused _ c.measure.ensures c.in_default.is))
 
 pub overflow_mul-size : goal.overflow_mul-size
 overflow_mul-size c =
-    let few = sizes-small (goal.at.overflow_mul-size c).In-Accepted in
-    let k-most : c.in-Accepted.z.k ≤ 16 = omega (arith, few.k-most, few.n-most) in
+    let few = sizes-small (goal.at.overflow_mul-size c).In-Ok in
+    let k-most : c.in-Ok.z.k ≤ 16 = omega (arith, few.k-most, few.n-most) in
     record { fits = omega (arith, mul-le-mul k-most few.l-most, mul-le-mul few.r-most few.l-most) }
 
 pub overflow_mul-z : goal.overflow_mul-z
 overflow_mul-z c =
-    record { fits = omega (arith, stripe-end (goal.at.overflow_mul-z c).In-Accepted, small (goal.at.overflow_mul-z c).In-Accepted) }
+    record { fits = omega (arith, stripe-end (goal.at.overflow_mul-z c).In-Ok, small (goal.at.overflow_mul-z c).In-Ok) }
 
 pub returns-then-stripe-z : goal.returns-then-stripe-z
 returns-then-stripe-z c =
-    refused (read-back-stripe _ _ _ (sizes (goal.at.returns-then-stripe-z c).In-Accepted).taken (λ e. c.if-stripe-z.true (e ∙ sym (stripe-end (goal.at.returns-then-stripe-z c).In-Accepted))))
+    refused (read-back-stripe _ _ _ (sizes (goal.at.returns-then-stripe-z c).In-Ok).taken (λ e. c.if-stripe-z.true (e ∙ sym (stripe-end (goal.at.returns-then-stripe-z c).In-Ok))))
 
 pub returns-then-buffer-size : goal.returns-then-buffer-size
 returns-then-buffer-size c =
-    refused (read-back_buffer _ _ _ (sizes (goal.at.returns-then-buffer-size c).In-Accepted).taken (c.if-stripe-z.false ∙ stripe-end (goal.at.returns-then-buffer-size c).In-Accepted) (λ e. c.if-buffer-size.true (e ∙ sym (data-end (goal.at.returns-then-buffer-size c).In-Accepted))))
+    refused (read-back_buffer _ _ _ (sizes (goal.at.returns-then-buffer-size c).In-Ok).taken (c.if-stripe-z.false ∙ stripe-end (goal.at.returns-then-buffer-size c).In-Ok) (λ e. c.if-buffer-size.true (e ∙ sym (data-end (goal.at.returns-then-buffer-size c).In-Ok))))
 
 -- there are as many bytes as are read
-front_length : (c : Else-buffer-size) → let end = c.in-Accepted.z.k * c.in-Accepted.z.l in
+front_length : (c : Else-buffer-size) → let end = c.in-Ok.z.k * c.in-Ok.z.l in
     length (take end c.args.stripe.now) ≡ end
 front_length c =
-    length-take-le (c.in-Accepted.z.k * c.in-Accepted.z.l) c.args.stripe.now
-    (omega (arith, data-end (goal.at.Else-buffer-size c).In-Accepted, stripe-end (goal.at.Else-buffer-size c).In-Accepted, data_most c.args.shape, c.if-stripe-z.false))
+    length-take-le (c.in-Ok.z.k * c.in-Ok.z.l) c.args.stripe.now
+    (omega (arith, data-end (goal.at.Else-buffer-size c).In-Ok, stripe-end (goal.at.Else-buffer-size c).In-Ok, data_most c.args.shape, c.if-stripe-z.false))
 
 pub slice_bounds-copy-end : goal.slice_bounds-copy-end
 slice_bounds-copy-end c = sym (front_length (goal.at.slice_bounds-copy-end c).Else-buffer-size)
@@ -75,16 +75,16 @@ slice_bounds-copy-end c = sym (front_length (goal.at.slice_bounds-copy-end c).El
 pub returns : goal.returns
 unfolding read_back
 returns c =
-    let end = c.in-Accepted.z.k * c.in-Accepted.z.l in
+    let end = c.in-Ok.z.k * c.in-Ok.z.l in
     let same : length c.args.buffer.now ≡ length (take end c.args.stripe.now) = c.if-buffer-size.false ∙ sym (front_length (goal.at.returns c).Else-buffer-size) in
     let e =
-    read-back-accepted c.args.shape c.args.stripe.now c.args.buffer.now (sizes (goal.at.returns c).In-Accepted).taken
-    (c.if-stripe-z.false ∙ stripe-end (goal.at.returns c).In-Accepted)
-    (c.if-buffer-size.false ∙ data-end (goal.at.returns c).In-Accepted) in
+    read-back-accepted c.args.shape c.args.stripe.now c.args.buffer.now (sizes (goal.at.returns c).In-Ok).taken
+    (c.if-stripe-z.false ∙ stripe-end (goal.at.returns c).In-Ok)
+    (c.if-buffer-size.false ∙ data-end (goal.at.returns c).In-Ok) in
     record {
       answered = sym e;
       buffer_later =
           accepted_writes c.args.buffer.now e
           (copied-whole same c.copy.ensures
-          ∙ ap (λ n. take n c.args.stripe.now) (data-end (goal.at.returns c).In-Accepted));
+          ∙ ap (λ n. take n c.args.stripe.now) (data-end (goal.at.returns c).In-Ok));
     }
