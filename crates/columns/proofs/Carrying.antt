@@ -1,25 +1,16 @@
--- A digit carried along from row to row, with no division. In order: quotient and remainder of the next number; what a digit counts; at row 0; the digit and
--- what lies below it are small; the next row, where only what lies below the digit changes, where the digit is one more, and where it starts from 0 again; the
--- parts of the indices of a symbol and of its mate are small.
+-- A digit carried along from row to row, with no division. In order: quotient and remainder of the next number; what a digit counts; the digit and
+-- what lies below it are small; the next row, where only what lies below the digit changes, where the digit is one more, and where it starts from 0 again.
 --   Carried s w a d j == d is row a's digit to base s that counts w, and j what the digits below it count
---   IndexParts w l u a d == the symbol at place u and row a, and its mate at place d, have indices u * l + a and d * l + (a - d * w + u * w) of small parts
 -- Assumes nothing.
 use mathlib.Core.Path.{◌≡◌, sym, ap, ◌∙◌}
 use Prim.Native.Nat.{ℕ, ◌+◌, ◌*◌, ◌/◌, ◌%◌, ◌<◌, ◌≤◌}
-use native.Mathlib.Nat.{div-add-mod', div-mul-le_self, le_trans, mod-le, mod-lt, mul-le-mul_right, zero-div, zero-mod}
+use native.Mathlib.Nat.{div-add-mod', div-mul-le_self, le_trans, mod-le, mod-lt, mul-le-mul_right}
 use native.Mathlib.Omega.{arith}
 use lib.Arith.{digits_div, digits_mod}
-use Rattle.columns.proofs.Kernels.{product_small}
 
 pub record Carried (s w a d j : ℕ) : Type 0 where
   pub digit : d ≡ a / w % s
   pub below : j ≡ a % w
-
-pub record IndexParts (w l u a d : ℕ) : Type 0 where
-  pub own-column : u * l ≤ 1024
-  pub other-column : d * l ≤ 1024
-  pub within : d * w ≤ a
-  pub place-small : u * w ≤ 1024
 
 next-within : (x b : ℕ) → x % b + 1 < b → ((x + 1) / b ≡ x / b) × ((x + 1) % b ≡ x % b + 1)
 next-within x b h =
@@ -36,9 +27,6 @@ next-over x b h =
 pub digit-most : (a w s : ℕ) → a / w % s * w ≤ a
 digit-most a w s = le_trans (mul-le-mul_right w (mod-le (a / w) s)) (div-mul-le_self a w)
 
-pub carried_start : (s w : ℕ) → Carried s w 0 0 0
-carried_start s w = record { digit = sym (ap (λ (y : ℕ). y % s) (zero-div w) ∙ zero-mod s); below = sym (zero-mod w) }
-
 -- the same with other names for the two
 pub carried_as : {s w a d j e k : ℕ} → e ≡ d → k ≡ j → Carried s w a d j → Carried s w a e k
 carried_as p q h = record { digit = p ∙ h.digit; below = q ∙ h.below }
@@ -49,9 +37,6 @@ module _ {s w a d j : ℕ} (was : Carried s w a d j) where
 
   pub below-small : 0 < w → j < w
   below-small some = omega (arith, was.below, mod-lt a some)
-
-  pub digit-within : d * w ≤ a
-  digit-within = omega (arith, ap (λ (x : ℕ). x * w) was.digit, digit-most a w s)
 
   pub carried-within : 0 < w → (j + 1 ≡ w → ⊥) → Carried s w (a + 1) d (j + 1)
   carried-within some ne =
@@ -72,11 +57,3 @@ module _ {s w a d j : ℕ} (was : Carried s w a d j) where
       let next = next-over a w (omega (arith, was.below, e)) in
       let up = next-over (a / w) s (omega (arith, was.digit, f)) in
       record { digit = sym up.1 ∙ ap (λ (y : ℕ). y % s) (sym next.0); below = sym next.1 }
-
-  pub index_parts : {l u : ℕ} → w ≤ 256 → u < s → s ≤ 4 → l ≤ 256 → IndexParts w l u a d
-  index_parts hw hu hs hl = record {
-    own-column = product_small (omega (arith, hu, hs)) hl;
-    other-column = product_small (omega (arith, digit-small (omega (arith, hu)), hs)) hl;
-    within = digit-within;
-    place-small = product_small (omega (arith, hu, hs)) hw;
-  }
