@@ -9,8 +9,10 @@ use Rattle.field.specs.Promise.{ProductIs}
 use Rattle.field.proofs.Numbers.{mul_cancel}
 use Rattle.field.proofs.Settled.{times_settled}
 use Rattle.tables.specs.Promise.{PowerIs, QuotientIs}
-use Rattle.tables.specs.declared.answers.Quotient.{Quotient}
-use Rattle.tables.specs.declared.answers.Quotient.TheVariants.{Number, Refused}
+use Rattle.std.specs.Prelude.{Result, Ok, Err}
+use Rattle.rules.specs.declared.refusals.Refusal.{Refusal}
+use Rattle.rules.specs.declared.refusals.Refusal.TheVariants.{BadLayout}
+use Rattle.rules.proofs.Numbers.{number_of-injective}
 
 pub mul_settled : (a b r s : ℕ) → ProductIs a b r → ProductIs a b s → r ≡ s
 mul_settled = times_settled
@@ -38,25 +40,25 @@ pub power_shifts : PowerIs 2 8 0 → ⊥
 unfolding power mul by_bits double add modulus
 power_shifts p = let e : ◌≡◌ {A = ℕ} 0 29 = p.value in omega arith
 
-pub divide_settled : (a b : ℕ) → b < 256 → (q r : Quotient) → QuotientIs a b q → QuotientIs a b r → q ≡ r
-divide_settled a b h (Number x) (Number y) p q =
-    ap Number (mul_cancel x y b p.small q.small p.divisor h (p.value ∙ sym q.value))
-divide_settled a b h (Number x) (Refused n) p q = absurd (omega arith)
-divide_settled a b h (Refused m) (Number y) p q = absurd (omega arith)
-divide_settled a b h (Refused m) (Refused n) p q = ap Refused (p.number ∙ sym q.number)
+pub divide_settled : (a b : ℕ) → b < 256 → (q r : Result ℕ Refusal) → QuotientIs a b q → QuotientIs a b r → q ≡ r
+divide_settled a b h (Ok x) (Ok y) p q =
+    ap Ok (mul_cancel x y b p.small q.small p.divisor h (p.value ∙ sym q.value))
+divide_settled a b h (Ok x) (Err n) p q = absurd (omega arith)
+divide_settled a b h (Err m) (Ok y) p q = absurd (omega arith)
+divide_settled a b h (Err m) (Err n) p q = ap Err (number_of-injective m n (p.number ∙ sym q.number))
 
 -- no number is answered for a division by 0
-pub divide-answers : (a q : ℕ) → QuotientIs a 0 (Number q) → ⊥
+pub divide-answers : (a q : ℕ) → QuotientIs a 0 (Ok q) → ⊥
 divide-answers a q p = omega arith
 
 -- nothing else is refused: 1 / 2 is 142
-pub divide_refuses : (n : ℕ) → QuotientIs 1 2 (Refused n) → ⊥
+pub divide_refuses : (n : Refusal) → QuotientIs 1 2 (Err n) → ⊥
 divide_refuses n p = omega arith
 
-pub divide_halves : QuotientIs 1 2 (Number 0) → ⊥
+pub divide_halves : QuotientIs 1 2 (Ok 0) → ⊥
 unfolding mul by_bits double add modulus
 divide_halves p = let e : ◌≡◌ {A = ℕ} 0 1 = p.value in omega arith
 
 -- no other refusal number
-pub divide-numbers : QuotientIs 1 0 (Refused 8) → ⊥
+pub divide-numbers : QuotientIs 1 0 (Err BadLayout) → ⊥
 divide-numbers p = let e : ◌≡◌ {A = ℕ} 8 9 = p.number in omega arith

@@ -8,14 +8,10 @@
 // copied a constant table to the stack at every use; today's reads it in place.)
 #![tactic(auto)]
 
-mod answers;
 mod dividing;
 mod multiplying;
 mod raising;
 mod tables;
-
-// The answer of a division: a number, or the number of the refusal.
-pub use answers::Quotient;
 
 // The number whose product with the divisor is the dividend.
 pub use dividing::divide;

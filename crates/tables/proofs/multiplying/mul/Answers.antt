@@ -9,8 +9,8 @@ use Rattle.tables.proofs.multiplying.mul.Goals.{then-a-eq0-via-then-a-eq0, then-
 pub returns-then-a-eq0 : goal.returns-then-a-eq0
 returns-then-a-eq0 c =
     elim c.then-a-eq0.branch [
-      then-a-eq0-via-then-a-eq0 w ↦ record { value = sym (ap (λ x. mul x c.args.b) w.if-a-eq0.true ∙ zero-mul c.args.b) }
-    | then-a-eq0-via-else-a-eq0+then-b-eq0 w ↦ record { value = sym (ap (mul c.args.a) w.if-b-eq0.true ∙ mul-zero c.args.a) }
+      | then-a-eq0-via-then-a-eq0 w ↦ record { value = sym (ap (λ x. mul x c.args.b) w.if-a-eq0.true ∙ zero-mul c.args.b) }
+      | then-a-eq0-via-else-a-eq0+then-b-eq0 w ↦ record { value = sym (ap (mul c.args.a) w.if-b-eq0.true ∙ mul-zero c.args.a) }
     ]
 
 pub returns : goal.returns
