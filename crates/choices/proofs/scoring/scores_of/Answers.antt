@@ -3,6 +3,7 @@ use mathlib.Core.Path.{refl, subst, ◌∙◌}
 use native.Mathlib.Omega.{arith}
 use Rattle.rules.specs.declared.shapes.Sizes.{Sizes}
 use Rattle.rules.specs.Promise.{SizesAre}
+use Rattle.rules.proofs.Accepted.{bounds}
 use Rattle.rules.proofs.Measures.{Small, small, sizes_are, measured-sizes, measured-refused, refused_not_accepted}
 use Rattle.columns.proofs.Kernels.{written_start, written_step}
 use Rattle.columns.proofs.Parts.{zeros-at}
@@ -41,7 +42,7 @@ returns c =
     let h = sizes (goal.at.returns c).In-Ok in
     let written = c.loop-a.invariant in
     record {
-      inside = λ taken. subst (λ (y : Sizes). ScoresAre y.s y.m y.l c.args.flags c.loop-a.scores) (sizes_are c.args.shape c.in-Ok.z h) (record {
+      inside = λ taken. subst (λ (y : Sizes). ScoresAre y.s y.m y.l c.args.flags c.loop-a.scores) (sizes_are c.args.shape c.in-Ok.z h (bounds c.args.shape h.taken)) (record {
         all = written.same_length;
         each = λ b k. written.done b (omega arith);
         rest = λ b k. written.kept b (omega arith) ∙ zeros-at 256 b;
