@@ -1,15 +1,15 @@
 -- Laws of the running sums. In order: an equation of a sum of symbols; the symbols gathered so far, one helper more, the failed node, all; the sums of them;
 -- where fractions stand.
-use mathlib.Core.Path.{◌≡◌, refl, sym, ap, ap₂, ◌∙◌, subst, fun_ext}
+use mathlib.Core.Path.{◌≡◌, refl, sym, ap, ap₂, ◌∙◌, fun_ext}
 use mathlib.Core.Bool.{Bool, true, false, cond, not}
 use mathlib.Core.List.{List, []}
 use mathlib.Core.Logic.{◌⊎◌, inl, inr}
 use Prim.Native.Nat.{ℕ, suc, ◌+◌, ◌-◌, ◌*◌, ◌<◌, ◌≤◌}
 use native.Mathlib.Decide.{ℕ_discrete}
-use native.Mathlib.Nat.{add-sub_cancel_left, mul-le-mul}
+use native.Mathlib.Nat.{mul-le-mul, mul-le-mul_right}
 use native.Mathlib.Omega.{arith}
 use lib.Dec.{eqb, ltb}
-use lib.ListN.{length, get_or, take, drop, replicate}
+use lib.ListN.{length, get_or, take, replicate}
 use borrow.Author.Tests.{eq-eqb, ne_eqb, lt-ltb, le-ltb, ltb-true, ltb-false}
 use Rattle.theory.specs.Code.{plus}
 use Rattle.theory.proofs.Linearity.{equation_ext, equation-add}
@@ -138,27 +138,20 @@ module _ (sh : Shape) (f : ℕ) (fractions : List ℕ) where
         same : gathered sh f fractions i ≡ gathered sh f fractions (i + 1)
         same = rw e (fun_ext (λ k. fun_ext (λ a. sym (gathered_skip k a))))
 
-    -- a helper's fraction, as the part of all that is lent
-    pub sums-step : (i q size : ℕ) (before later : List ℕ) → (i ≡ f → ⊥) → i ≤ sh.n → q ≡ helper_before f i → size ≡ fraction_length sh
+    -- a helper's fraction
+    pub sums-step : (i : ℕ) (before later : List ℕ) → (i ≡ f → ⊥) → i ≤ sh.n
         → SumsAre sh f fractions i before
-        → Added sh f i (take (q * size + size - q * size) (drop (q * size) fractions)) before later
+        → Added sh f i (fraction_of sh f fractions i) before later
         → SumsAre sh f fractions (i + 1) later
-    unfolding fraction_of
-    sums-step i q size before later ne h is-before is-size was added = record {
+    sums-step i before later ne h was added = record {
       all = added.same_length ∙ was.all;
       bytes = λ t j ht hj.
-          is.bytes t j ht hj
+          added.bytes t j ht hj
           ∙ ap (λ x. add x (equation sh (alone sh f i (fraction_of sh f fractions i)) (get_or (rows_read sh f) j 0) t)) (was.bytes t j ht hj)
           ∙ sym
           (equation-plus sh b (gathered sh f fractions i) (alone sh f i (fraction_of sh f fractions i)) (gathered sh f fractions (i + 1)) _ t
           (λ k c. gathered-step i (suc k) c ne h));
     }
-      where
-        part : take (q * size + size - q * size) (drop (q * size) fractions) ≡ fraction_of sh f fractions i
-        part = rw (add-sub_cancel_left, is-before, is-size)
-
-        is : Added sh f i (fraction_of sh f fractions i) before later
-        is = subst (λ given. Added sh f i given before later) part added
 
 -- the fraction of a helper stands among n − 1
 pub helper_most : (f i n : ℕ) → 1 ≤ f → f ≤ n → 1 ≤ i → i ≤ n → (i ≡ f → ⊥) → suc (helper_before f i) ≤ n - 1
@@ -168,6 +161,11 @@ helper_most f i n f-first f-last first last ne = go (lt_or_gt i f ne)
     go : (i < f) ⊎ (f < i) → suc (cond (ltb i f) (i - 1) (i - 2)) ≤ n - 1
     go (inl l) = rw (lt-ltb i f l) (omega arith)
     go (inr l) = rw (le-ltb i f (omega (arith, l))) (omega arith)
+
+-- where it ends
+pub fraction_within : (f i n size q : ℕ) → 1 ≤ f → f ≤ n → 1 ≤ i → i ≤ n → (i ≡ f → ⊥) → q ≡ helper_before f i → q * size + size ≤ (n - 1) * size
+fraction_within f i n size q f-first f-last first last ne is =
+    omega (arith, mul-le-mul_right {m = suc q} {n = n - 1} size (omega (arith, is, helper_most f i n f-first f-last first last ne)))
 
 -- all fractions, however many nodes there are up to 16
 pub fractions-most : (n size : ℕ) → n ≤ 16 → size ≤ 256 → (n - 1) * size ≤ 4096

@@ -1,7 +1,7 @@
 // The entry: the column of a failed node from the fractions of all others.
 ghost use Rattle.rebuild.specs.Promise.{RebuildMeets};
 
-use crate::summing::add_helpers;
+use crate::summing::Given;
 use recover::solve_rows;
 use rules::{Shape, measure};
 use yebarg::Outcome;
@@ -27,10 +27,16 @@ pub fn rebuild(shape: Shape, failed: usize, fractions: &[u8], column: &mut [u8])
     if z.shape.n < failed {
         return Outcome::Refused(3);
     }
+    let given = Given {
+        shape,
+        failed,
+        size,
+        bytes: fractions,
+    };
     let end = z.shape.r * size;
     // r sums for each row read; s being r, as many as a column has bytes.
     let mut sums = [0u8; 256];
-    add_helpers(&mut sums[..end], fractions, shape, failed, z.shape.n, size);
+    given.add_all(&mut sums[..end]);
     // It can be solved: the shape is accepted, the lengths are exact, and there is such a node.
     solve_rows(&sums[..end], shape, failed, column);
     Outcome::Done

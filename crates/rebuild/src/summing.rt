@@ -1,62 +1,72 @@
-// The running sums: what the helpers' fractions bring to the equations of the rows read, helper by helper in rising node order.
-ghost use Rattle.std.specs.Prelude.{◌≡◌, ◌≤◌, ◌<◌, ◌+◌, ◌-◌, ◌*◌, length};
+// The running sums: what the helpers' fractions bring to the equations of the rows read, helper by helper in rising node order. Functions that have a
+// `requires` can't be named from outside the crate.
+ghost use Rattle.std.specs.Prelude.{◌≡◌, ◌≢◌, ◌≤◌, ◌+◌, ◌-◌, ◌*◌, length};
 ghost use Rattle.std.proofs.Math.Option.{none};
-ghost use Rattle.rules.specs.Fraction.{fraction_length, helper_before};
+ghost use Rattle.rules.specs.Fraction.{fraction_length, fraction_of, helper_before};
 ghost use Rattle.rules.specs.Refusal.{shape_refusal};
 ghost use Rattle.rebuild.specs.Kernel.{SumsAre};
 
 use fractions::add_fraction;
 use rules::Shape;
 
-// How many fractions stand before that of node i.
+// How many fractions stand before that of node i, which isn't the failed one.
+#[tactic(auto, unfolding(rules::specs::Fraction::helper_before))]
 fn helper_before(failed: usize, i: usize) -> usize
-    requires le_failed { (1 ≤ failed) × (1 ≤ i) }
-    requires not_failed { i ≡ failed → ⊥ }
+    requires nodes { (1 ≤ failed) × (1 ≤ i) }
+    requires other { i ≢ failed }
     ensures { result ≡ helper_before failed i }
 {
-    if i < failed {
-        return i - 1;
-    }
-    i - 2
+    if i < failed { i - 1 } else { i - 2 }
 }
 
-// Adds what node i brings to the sums of the helpers before it. The failed node brings nothing.
-fn add_helper(sums: &mut [u8], fractions: &[u8], shape: Shape, failed: usize, i: usize, size: usize)
-    requires shape_value { (shape_refusal shape ≡ none) × (size ≡ fraction_length shape) }
-    requires le_failed { (1 ≤ failed) × (failed ≤ shape.n) }
-    requires le_i { (1 ≤ i) × (i ≤ shape.n) }
-    requires fractions_len { length fractions.now ≡ (shape.n - 1) * size }
-    requires sums_are { SumsAre shape failed fractions.now i sums.old }
-    ensures { SumsAre shape failed fractions.now (i + 1) sums.new }
-{
-    if i == failed {
-        return;
-    }
-    let start = helper_before(failed, i) * size;
-    let stop = start + size;
-    // It isn't refused: the shape is accepted, the lengths are exact, and i is another node.
-    add_fraction(shape, i, failed, &fractions[start..stop], sums);
+// What all nodes but the failed one give, end to end in rising node order.
+#[derive(Clone, Copy)]
+pub struct Given<'a> {
+    pub shape: Shape,
+    pub failed: usize,
+    // How many bytes each gives.
+    pub size: usize,
+    pub bytes: &'a [u8],
+    ghost taken: { shape_refusal shape ≡ none },
+    ghost first: { 1 ≤ failed },
+    ghost last: { failed ≤ shape.n },
+    ghost size_is: { size ≡ fraction_length shape },
+    ghost exact: { length bytes.now ≡ (shape.n - 1) * size },
 }
 
-// Adds what all helpers bring.
-pub fn add_helpers(
-    sums: &mut [u8],
-    fractions: &[u8],
-    shape: Shape,
-    failed: usize,
-    n: usize,
-    size: usize,
-)
-    requires shape_value { (shape_refusal shape ≡ none) × (size ≡ fraction_length shape) }
-    requires le_failed { (1 ≤ failed) × (failed ≤ shape.n) }
-    requires n_value { n ≡ shape.n }
-    requires fractions_len { length fractions.now ≡ (shape.n - 1) * size }
-    requires sums_are { SumsAre shape failed fractions.now 1 sums.old }
-    ensures { SumsAre shape failed fractions.now (shape.n + 1) sums.new }
-{
-    let mut i = 1;
-    while i <= n {
-        add_helper(sums, fractions, shape, failed, i, size);
-        i = i + 1;
+impl Given<'_> {
+    // The fraction of node i.
+    fn fraction(&self, i: usize) -> &[u8]
+        requires node { (1 ≤ i) × (i ≤ self.now.shape.n) }
+        requires other { i ≢ self.now.failed }
+        ensures is { result.now ≡ fraction_of self.now.shape self.now.failed self.now.bytes.now i }
+        ensures exact { length result.now ≡ fraction_length self.now.shape }
+    {
+        let start = helper_before(self.failed, i) * self.size;
+        let stop = start + self.size;
+        &self.bytes[start..stop]
+    }
+
+    // Adds what node i brings to the sums of the helpers before it. The failed node brings nothing.
+    fn add_helper(&self, i: usize, sums: &mut [u8])
+        requires node { (1 ≤ i) × (i ≤ self.now.shape.n) }
+        requires sums_are { SumsAre self.now.shape self.now.failed self.now.bytes.now i sums.old }
+        ensures { SumsAre self.now.shape self.now.failed self.now.bytes.now (i + 1) sums.new }
+    {
+        if i == self.failed {
+            return;
+        }
+        // It isn't refused: the shape is accepted, the lengths are exact, and i is another node.
+        add_fraction(self.shape, i, self.failed, self.fraction(i), sums);
+    }
+
+    // Adds what all helpers bring.
+    pub fn add_all(&self, sums: &mut [u8])
+        requires { SumsAre self.now.shape self.now.failed self.now.bytes.now 1 sums.old }
+        ensures { SumsAre self.now.shape self.now.failed self.now.bytes.now (self.now.shape.n + 1) sums.new }
+    {
+        for i in 1..=self.shape.n {
+            self.add_helper(i, sums);
+        }
     }
 }

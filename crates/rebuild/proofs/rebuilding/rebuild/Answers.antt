@@ -19,7 +19,7 @@ use Rattle.rules.proofs.RowsRead.{fraction-times}
 use Rattle.rules.proofs.Lengths.{fraction-is, sums_are, fraction-most}
 use Rattle.columns.proofs.Parts.{zeros-length, front_fits, front_length}
 use Rattle.yebarg.specs.declared.answers.Outcome.TheVariants.{Done, Refused}
-use Rattle.rules.specs.Refusal.{not_node}
+use Rattle.yebarg.specs.Refusal.{not_node}
 use Rattle.yebarg.proofs.Refusals.{not_node-low, not_node_high, a-node}
 use Rattle.rebuild.specs.Refusal.{rebuild_refusal}
 use Rattle.rebuild.specs.Promise.{Rebuilt, RebuildMeets}
@@ -29,7 +29,7 @@ use Rattle.rebuild.proofs.Gathering.{sums_start, fractions-most}
 use Rattle.rebuild.proofs.Finding.{solved→meets}
 use Rattle.rebuild.proofs.Refusals.{rebuild-shape, rebuild-fractions, rebuild-column, rebuild-failed, rebuild-accepted}
 use Rattle.rebuild.proofs.rebuilding.rebuild.Goals as goal
-use Rattle.rebuild.proofs.rebuilding.rebuild.Goals.{After-add_helpers, After-solve_rows, Else-column-z, Else-fractions-z, Else-z-failed, In-Ok}
+use Rattle.rebuild.proofs.rebuilding.rebuild.Goals.{After-add_all, After-solve_rows, Else-column-z, Else-fractions-z, Else-z-failed, In-Ok}
 
 refused : {sh : Shape} {failed : ℕ} {fractions col : List ℕ} {q : ℕ} → rebuild_refusal sh failed fractions col ≡ some q
     → RebuildMeets sh failed fractions col (Refused q) col
@@ -122,50 +122,54 @@ overflow_mul-end c = record { fits = omega (arith, end-most (goal.at.overflow_mu
 pub slice_bounds-sums-end : goal.slice_bounds-sums-end
 slice_bounds-sums-end c = end-most (goal.at.slice_bounds-sums-end c).In-Ok
 
-pub slice_bounds-add_helpers-end : goal.slice_bounds-add_helpers-end
-slice_bounds-add_helpers-end c = sym (zeros-length (c.in-Ok.z.shape.r * (c.in-Ok.z.l / c.in-Ok.z.s)) 256 (end-most (goal.at.slice_bounds-add_helpers-end c).In-Ok))
+pub slice_bounds-add_all-end : goal.slice_bounds-add_all-end
+slice_bounds-add_all-end c = sym (zeros-length (c.in-Ok.z.shape.r * (c.in-Ok.z.l / c.in-Ok.z.s)) 256 (end-most (goal.at.slice_bounds-add_all-end c).In-Ok))
 
-pub add_helpers-requires : goal.add_helpers-requires
-add_helpers-requires c =
+pub invariant_of-given : goal.invariant_of-given
+invariant_of-given c =
     record {
-      shape_value = ((sizes (goal.at.add_helpers-requires c).In-Ok).taken, part (goal.at.add_helpers-requires c).In-Ok);
-      le_failed = (failed-first (goal.at.add_helpers-requires c).Else-z-failed, failed-last (goal.at.add_helpers-requires c).Else-z-failed);
-      n_value = (sizes (goal.at.add_helpers-requires c).In-Ok).n-is;
-      fractions_len = fractions-right (goal.at.add_helpers-requires c).Else-fractions-z ∙ ap (λ x. (c.args.shape.n - 1) * x) (sym (part (goal.at.add_helpers-requires c).In-Ok));
-      sums_are = sums_start c.args.shape c.args.failed c.args.fractions.now (bound (goal.at.add_helpers-requires c).In-Ok) c.in-Ok.z.shape.r (c.in-Ok.z.l / c.in-Ok.z.s) 256 (sizes (goal.at.add_helpers-requires c).In-Ok).r-is (part (goal.at.add_helpers-requires c).In-Ok) (end-most (goal.at.add_helpers-requires c).In-Ok);
+      taken = (sizes (goal.at.invariant_of-given c).In-Ok).taken;
+      first = failed-first (goal.at.invariant_of-given c).Else-z-failed;
+      last = failed-last (goal.at.invariant_of-given c).Else-z-failed;
+      size_is = part (goal.at.invariant_of-given c).In-Ok;
+      exact = fractions-right (goal.at.invariant_of-given c).Else-fractions-z ∙ ap (λ x. (c.args.shape.n - 1) * x) (sym (part (goal.at.invariant_of-given c).In-Ok));
     }
 
-abbrev sums : After-add_helpers → List ℕ
-sums c = c.add_helpers.new.sums
+pub add_all-requires : goal.add_all-requires
+add_all-requires c =
+    sums_start c.args.shape c.args.failed c.args.fractions.now (bound (goal.at.add_all-requires c).In-Ok) c.in-Ok.z.shape.r (c.in-Ok.z.l / c.in-Ok.z.s) 256 (sizes (goal.at.add_all-requires c).In-Ok).r-is (part (goal.at.add_all-requires c).In-Ok) (end-most (goal.at.add_all-requires c).In-Ok)
 
-abbrev rest : After-add_helpers → List ℕ
+abbrev sums : After-add_all → List ℕ
+sums c = c.add_all.new.sums
+
+abbrev rest : After-add_all → List ℕ
 rest c = drop (c.in-Ok.z.shape.r * (c.in-Ok.z.l / c.in-Ok.z.s)) (replicate 256 0)
 
-sums-exact : (c : After-add_helpers) → length (sums c) ≡ (c.in-Ok.z.shape.r * (c.in-Ok.z.l / c.in-Ok.z.s))
-sums-exact c = c.add_helpers.ensures.all ∙ sym (end_is (goal.at.After-add_helpers c).In-Ok)
+sums-exact : (c : After-add_all) → length (sums c) ≡ (c.in-Ok.z.shape.r * (c.in-Ok.z.l / c.in-Ok.z.s))
+sums-exact c = c.add_all.ensures.all ∙ sym (end_is (goal.at.After-add_all c).In-Ok)
 
 pub slice_bounds-sums-end-2 : goal.slice_bounds-sums-end-2
-slice_bounds-sums-end-2 c = front_fits c.add_helpers.new.sums (drop (c.in-Ok.z.shape.r * (c.in-Ok.z.l / c.in-Ok.z.s)) (replicate 256 0)) (c.in-Ok.z.shape.r * (c.in-Ok.z.l / c.in-Ok.z.s)) (sums-exact (goal.at.slice_bounds-sums-end-2 c).After-add_helpers)
+slice_bounds-sums-end-2 c = front_fits c.add_all.new.sums (drop (c.in-Ok.z.shape.r * (c.in-Ok.z.l / c.in-Ok.z.s)) (replicate 256 0)) (c.in-Ok.z.shape.r * (c.in-Ok.z.l / c.in-Ok.z.s)) (sums-exact (goal.at.slice_bounds-sums-end-2 c).After-add_all)
 
 pub slice_bounds-solve_rows-end : goal.slice_bounds-solve_rows-end
-slice_bounds-solve_rows-end c = sym (front_length c.add_helpers.new.sums (drop (c.in-Ok.z.shape.r * (c.in-Ok.z.l / c.in-Ok.z.s)) (replicate 256 0)) (c.in-Ok.z.shape.r * (c.in-Ok.z.l / c.in-Ok.z.s)) (sums-exact (goal.at.slice_bounds-solve_rows-end c).After-add_helpers))
+slice_bounds-solve_rows-end c = sym (front_length c.add_all.new.sums (drop (c.in-Ok.z.shape.r * (c.in-Ok.z.l / c.in-Ok.z.s)) (replicate 256 0)) (c.in-Ok.z.shape.r * (c.in-Ok.z.l / c.in-Ok.z.s)) (sums-exact (goal.at.slice_bounds-solve_rows-end c).After-add_all))
 
 -- it is lent what it asks for
-recoverable : (c : After-add_helpers) → Recoverable c.args.shape c.args.failed (take (c.in-Ok.z.shape.r * (c.in-Ok.z.l / c.in-Ok.z.s)) (sums c ++ rest c)) c.args.column.now
+recoverable : (c : After-add_all) → Recoverable c.args.shape c.args.failed (take (c.in-Ok.z.shape.r * (c.in-Ok.z.l / c.in-Ok.z.s)) (sums c ++ rest c)) c.args.column.now
 recoverable c =
     record {
-      taken = (sizes (goal.at.After-add_helpers c).In-Ok).taken;
-      sums-exact = front_length (sums c) (rest c) (c.in-Ok.z.shape.r * (c.in-Ok.z.l / c.in-Ok.z.s)) (sums-exact c) ∙ end_is (goal.at.After-add_helpers c).In-Ok;
-      column-exact = column-right (goal.at.After-add_helpers c).Else-column-z;
-      first = failed-first (goal.at.After-add_helpers c).Else-z-failed;
-      last = failed-last (goal.at.After-add_helpers c).Else-z-failed;
+      taken = (sizes (goal.at.After-add_all c).In-Ok).taken;
+      sums-exact = front_length (sums c) (rest c) (c.in-Ok.z.shape.r * (c.in-Ok.z.l / c.in-Ok.z.s)) (sums-exact c) ∙ end_is (goal.at.After-add_all c).In-Ok;
+      column-exact = column-right (goal.at.After-add_all c).Else-column-z;
+      first = failed-first (goal.at.After-add_all c).Else-z-failed;
+      last = failed-last (goal.at.After-add_all c).Else-z-failed;
     }
 
 -- the sums at the front are those of all helpers
-solved : (c : After-solve_rows) → RowsSolved c.args.shape c.args.failed c.add_helpers.new.sums c.solve_rows.new.column
+solved : (c : After-solve_rows) → RowsSolved c.args.shape c.args.failed c.add_all.new.sums c.solve_rows.new.column
 solved c =
-    subst (λ xs. RowsSolved c.args.shape c.args.failed xs c.solve_rows.new.column) (take_at c.add_helpers.new.sums (drop (c.in-Ok.z.shape.r * (c.in-Ok.z.l / c.in-Ok.z.s)) (replicate 256 0)) (c.in-Ok.z.shape.r * (c.in-Ok.z.l / c.in-Ok.z.s)) (sums-exact (goal.at.After-solve_rows c).After-add_helpers))
-    (c.solve_rows.ensures.solved (solve-rows-true c.solve_rows.result c.solve_rows.ensures (recoverable (goal.at.After-solve_rows c).After-add_helpers)))
+    subst (λ xs. RowsSolved c.args.shape c.args.failed xs c.solve_rows.new.column) (take_at c.add_all.new.sums (drop (c.in-Ok.z.shape.r * (c.in-Ok.z.l / c.in-Ok.z.s)) (replicate 256 0)) (c.in-Ok.z.shape.r * (c.in-Ok.z.l / c.in-Ok.z.s)) (sums-exact (goal.at.After-solve_rows c).After-add_all))
+    (c.solve_rows.ensures.solved (solve-rows-true c.solve_rows.result c.solve_rows.ensures (recoverable (goal.at.After-solve_rows c).After-add_all)))
 
 pub shape_of-column : goal.shape_of-column
 shape_of-column c =
@@ -179,6 +183,6 @@ returns c =
     (record {
       bytes = (solved (goal.at.returns c).After-solve_rows).bytes;
       meets =
-          solved→meets c.args.shape (bound (goal.at.returns c).In-Ok) c.args.failed (failed-first (goal.at.returns c).Else-z-failed) (failed-last (goal.at.returns c).Else-z-failed) c.args.fractions.now c.add_helpers.new.sums _ c.add_helpers.ensures
+          solved→meets c.args.shape (bound (goal.at.returns c).In-Ok) c.args.failed (failed-first (goal.at.returns c).Else-z-failed) (failed-last (goal.at.returns c).Else-z-failed) c.args.fractions.now c.add_all.new.sums _ c.add_all.ensures
           (solved (goal.at.returns c).After-solve_rows);
     })
