@@ -19,7 +19,7 @@ use Rattle.rules.proofs.RowsRead.{fraction-times}
 use Rattle.rules.proofs.Lengths.{fraction-is, sums_are, fraction-most}
 use Rattle.columns.proofs.Parts.{zeros-length, front_fits, front_length}
 use Rattle.yebarg.specs.declared.answers.Outcome.TheVariants.{Done, Refused}
-use Rattle.yebarg.specs.Refusal.{not_node}
+use Rattle.rules.specs.Refusal.{not_node}
 use Rattle.yebarg.proofs.Refusals.{not_node-low, not_node_high, a-node}
 use Rattle.rebuild.specs.Refusal.{rebuild_refusal}
 use Rattle.rebuild.specs.Promise.{Rebuilt, RebuildMeets}
