@@ -1,13 +1,13 @@
--- The loop over the columns of a stripe that are corrected. In order: how far its numbers go at node i, and where the columns of the node's group lie;
+-- The loop over the columns of a stripe that are corrected. In order: where the group of node i ends, and its columns;
 -- the correction that is taken from the group's columns is that from all columns; one turn with a chosen column, one with another.
---   Room z i == every number fits, and the group's columns lie among those of all m × s nodes
+--   Room z i == the group is among 16 nodes, and its columns lie among those of all m × s nodes
 --   corrected_in sh flags scores level short before i a == the byte to come at row a of column i
 -- Assumes nothing.
 use mathlib.Core.Path.{◌≡◌, sym, ap, ap₂, ◌∙◌, subst}
 use mathlib.Core.Bool.{Bool, true, false, cond}
 use mathlib.Core.List.{List}
 use Prim.Native.Nat.{ℕ, suc, ◌+◌, ◌-◌, ◌*◌, ◌/◌, ◌%◌, ◌<◌, ◌≤◌, compare}
-use native.Mathlib.Nat.{mul-le-mul, mul-le-mul_right, div-add-mod', div-lt_iff_lt-mul, div-le_self, mod-lt}
+use native.Mathlib.Nat.{mul-le-mul_right, div-add-mod', div-lt_iff_lt-mul, mod-lt}
 use native.Mathlib.Numerals.{add-one}
 use native.Mathlib.Omega.{arith}
 use lib.Dec.{eqb}
@@ -17,40 +17,28 @@ use Rattle.field.specs.Number.{add}
 use Rattle.rules.specs.declared.shapes.Shape.{Shape}
 use Rattle.rules.specs.declared.shapes.Sizes.{Sizes}
 use Rattle.rules.specs.Shape.{group_size, groups, rows, worth, digit, with_digit}
-use Rattle.rules.specs.Promise.{SizesAre}
 use Rattle.rules.proofs.Accepted.{Bounds, bounds, size-some, nodes-least}
-use Rattle.rules.proofs.Measures.{Small, small, sizes_of, sizes_are}
+use Rattle.rules.proofs.Measures.{own-sizes, sizes_of, sizes_are}
 use Rattle.rules.proofs.Layouts.{set_below}
 use Rattle.rules.proofs.Lengths.{group-within}
-use Rattle.columns.proofs.Kernels.{column-within, entry-within}
+use Rattle.columns.proofs.Kernels.{entry-within}
 use Rattle.columns.proofs.Parts.{part_length, part-byte}
 use Rattle.corrections.specs.Correction.{chosen, correction_by, correction_in}
 use Rattle.corrections.specs.Kernel.{correction_at, ColumnCorrected}
 use Rattle.columns.proofs.Columns.{ColumnsTo, columns-put, columns_skip}
 
 pub record Room (z : Sizes) (i : ℕ) : Type 0 where
-  pub node-most : i ≤ 16
-  pub group-most : i / z.s ≤ 16
   pub first-most : i / z.s * z.s + z.s ≤ 16
-  pub column-most : i * z.l + z.l ≤ 4096
-  pub part-most : i / z.s * z.s * z.l + z.s * z.l ≤ 4096
   pub part-within : i / z.s * z.s * z.l + z.s * z.l ≤ z.m * z.s * z.l
 
 group-columns : (i m s l : ℕ) → 0 < s → i < m * s → i / s * s * l + s * l ≤ m * s * l
 group-columns i m s l pos h = omega (arith, mul-le-mul_right {m = i / s * s + s} {n = m * s} l (group-within i m s pos h))
 
-pub room : (z : Sizes) (i : ℕ) → Small z → i < z.shape.n → Room z i
-room z i small h =
-    let node : i < z.m * z.s = omega (arith, h, small.nodes-least) in
-    let first : i / z.s * z.s + z.s ≤ 16 = omega (arith, group-within i z.m z.s small.s-some node, small.nodes-most) in
-    record {
-      node-most = omega (arith, h, small.n-most);
-      group-most = omega (arith, div-le_self i z.s, h, small.n-most);
-      first-most = first;
-      column-most = omega (arith, column-within z.l h, mul-le-mul small.n-most small.l-most);
-      part-most = omega (arith, mul-le-mul first small.l-most);
-      part-within = group-columns i z.m z.s z.l small.s-some node;
-    }
+pub room : (z : Sizes) (i : ℕ) → i < z.shape.n → Room z i
+room z i h =
+    let some : 0 < z.s = omega arith in
+    let node : i < z.m * z.s = omega arith in
+    record { first-most = omega (arith, group-within i z.m z.s some node); part-within = group-columns i z.m z.s z.l some node }
 
 -- the columns of node i's group among all
 abbrev group_part : Shape → List ℕ → ℕ → List ℕ
@@ -145,10 +133,10 @@ module _ (sh : Shape) (b : Bounds sh) (flags : List Bool) (scores : List ℕ) (l
           (get_or before (i * rows sh + a) 0))
           (sym into)
 
-pub column-step : (sh : Shape) (z : Sizes) → SizesAre sh z → (flags : List Bool) (scores : List ℕ) (level : ℕ) (short before : List ℕ)
-    → ColumnStep sh flags scores level short before z
-column-step sh z h flags scores level short before =
-    subst (ColumnStep sh flags scores level short before) (sym (sizes_are sh z h (bounds sh h.taken))) (column-step-at sh (bounds sh h.taken) flags scores level short before)
+pub column-step : (z : Sizes) (flags : List Bool) (scores : List ℕ) (level : ℕ) (short before : List ℕ) → ColumnStep z.shape flags scores level short before z
+column-step z flags scores level short before =
+    let b = bounds z.shape z.of_shape.taken in
+    subst (ColumnStep z.shape flags scores level short before) (sym (sizes_are z.shape z (own-sizes z) b)) (column-step-at z.shape b flags scores level short before)
 
 -- one with another, which stays
 pub column-stays : (sh : Shape) (l : ℕ) → l ≡ rows sh → (flags : List Bool) (scores : List ℕ) (level : ℕ) (short before xs : List ℕ) (i : ℕ)

@@ -1,7 +1,6 @@
 // Columns corrected. Functions of this module that have a `requires` can't be named from outside the crate.
 ghost use Rattle.std.specs.Prelude.{◌≡◌, length};
 ghost use Prim.Native.Nat.{◌≤◌, ◌<◌, ◌+◌, ◌*◌, compare};
-ghost use Rattle.rules.specs.Promise.{SizesAre};
 ghost use Rattle.columns.specs.Promise.{ByteIs};
 ghost use Rattle.corrections.specs.Correction.{correction_by, ColumnsCorrected};
 ghost use Rattle.corrections.specs.Promise.{CorrectionsAre};
@@ -9,7 +8,7 @@ ghost use Rattle.corrections.specs.Kernel.{ColumnCorrected};
 
 use columns::byte_at;
 use field::{double, times};
-use rules::{Shape, Sizes, measure, worth};
+use rules::{Misfit, Shape, Sizes, measure, worth};
 
 // What is added to the symbol of a lost node at place u, where the row's digit is d: `own` and `other` are what its weight and its mate's fall short by, and
 // `paired` says whether its mate is lost too. γ is 2; 142 is the inverse of γ, 244 that of γ + 1.
@@ -97,12 +96,11 @@ impl Group<'_> {
 }
 
 // Corrects all chosen columns of a stripe. `short` holds what the weights of all m × s nodes fall short by.
-fn correct_chosen(shape: Shape, z: Sizes, asked: &Asked, short: &[u8], stripe: &mut [u8])
-    requires sizes_are { SizesAre shape z }
+fn correct_chosen(z: Sizes, asked: &Asked, short: &[u8], stripe: &mut [u8])
     requires scores_enough { z.l ≤ length asked.now.scores.now }
     requires short_exact { length short.now ≡ z.m * z.s * z.l }
     requires exact { length stripe.old ≡ z.shape.n * z.l }
-    ensures { ColumnsCorrected shape asked.now.flags asked.now.scores.now asked.now.level short.now stripe.old stripe.new }
+    ensures { ColumnsCorrected z.shape asked.now.flags asked.now.scores.now asked.now.level short.now stripe.old stripe.new }
 {
     let s = z.s;
     let l = z.l;
@@ -117,7 +115,7 @@ fn correct_chosen(shape: Shape, z: Sizes, asked: &Asked, short: &[u8], stripe: &
             let group = Group {
                 first,
                 s,
-                w: worth(shape, v + 1),
+                w: worth(z.shape, v + 1),
                 l,
                 short: &short[from..to],
             };
@@ -127,7 +125,7 @@ fn correct_chosen(shape: Shape, z: Sizes, asked: &Asked, short: &[u8], stripe: &
 }
 
 // Corrects the chosen columns of a stripe at the rows that have the score asked for. `scores` has a score for each row, and `short` what the weights of all
-// m × s nodes fall short by, column by column. False, and nothing written, where the shape isn't accepted, there are fewer than l scores, `short` doesn't
+// m × s nodes fall short by, column by column. A misfit, and nothing written, where the shape isn't accepted, there are fewer than l scores, `short` doesn't
 // have m × s × l bytes or the stripe doesn't have n × l.
 pub fn correct_columns(
     shape: Shape,
@@ -136,26 +134,20 @@ pub fn correct_columns(
     level: u8,
     short: &[u8],
     stripe: &mut [u8],
-) -> bool
+) -> Result<(), Misfit>
     ensures { CorrectionsAre shape flags scores.now level short.now stripe.old result stripe.new }
 {
     let Ok(z) = measure(shape) else {
-        return false;
+        return Err(Misfit);
     };
-    if scores.len() < z.l {
-        return false;
-    }
-    if short.len() != z.m * z.s * z.l {
-        return false;
-    }
-    if stripe.len() != z.shape.n * z.l {
-        return false;
+    if scores.len() < z.l || short.len() != z.m * z.s * z.l || stripe.len() != z.shape.n * z.l {
+        return Err(Misfit);
     }
     let asked = Asked {
         flags,
         scores,
         level,
     };
-    correct_chosen(shape, z, &asked, short, stripe);
-    true
+    correct_chosen(z, &asked, short, stripe);
+    Ok(())
 }
