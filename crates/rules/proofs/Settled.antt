@@ -1,7 +1,7 @@
 -- What each public function promises settles its result: two results that one promise allows are equal. And for each, wrong answers that the promise
--- rules out. In order: `Shape::new`, `measure`, `worth`, `point`.
+-- rules out. In order: `Shape::new`, `measure`, `worth`, `point`; what checks (`Sizes::check_node`, `check_len`).
 use mathlib.Core.Path.{◌≡◌, refl, sym, ap, ap₂, ◌∙◌}
-use mathlib.Core.Bool.{true, false}
+use mathlib.Core.Bool.{true, false, true≢false, false≢true}
 use mathlib.Core.Logic.{◌⊎◌, inl, inr}
 use mathlib.Core.Option.{none, some, none-ne-some, some-ne-none}
 use Prim.Native.Nat.{ℕ, ◌<◌, ◌≤◌}
@@ -10,12 +10,12 @@ use native.Mathlib.Decide.{dec_le}
 use Rattle.field.specs.Number.{modulus, add, double, by_bits, mul, power}
 use Rattle.rules.specs.declared.shapes.Shape.{Shape}
 use Rattle.rules.specs.declared.shapes.Sizes.{Sizes}
-use Rattle.std.specs.Prelude.{Result, Ok, Err}
+use Rattle.std.specs.Prelude.{Result, Ok, Err, IsOk, IsOkUnless, ◌↔◌}
 use Rattle.rules.specs.declared.refusals.Refusal.{Refusal}
 use Rattle.rules.specs.declared.refusals.Refusal.TheVariants as refusal
 use Rattle.rules.specs.Shape.{group_size, groups, rows, accepted, worth}
 use Rattle.rules.specs.Point.{point_of}
-use Rattle.rules.specs.Refusal.{shape_refusal, number_of, refusal_of}
+use Rattle.rules.specs.Refusal.{shape_refusal, number_of, not_node}
 use Rattle.rules.proofs.Numbers.{number_of-injective}
 use Rattle.rules.specs.Bench.{shape}
 use Rattle.rules.proofs.Accepted.{refusal-cases}
@@ -106,3 +106,33 @@ point-zero p = let e : ◌≡◌ {A = ℕ} 0 29 = p.inside (omega arith) (omega 
 -- there is no point 17
 pub point_wraps : PointIs (shape 3 2) 17 1 → ⊥
 point_wraps p = let e : ◌≡◌ {A = ℕ} 1 0 = p.outside (inr (omega arith)) in omega arith
+
+-- of a check: accepted exactly where P holds, and else refused with q
+pub check_settled : (P : Type 0) (q : Refusal) (x y : Result (Unit {0}) Refusal) → (IsOk x ↔ P) → IsOkUnless x q → (IsOk y ↔ P) → IsOkUnless y q → x ≡ y
+check_settled P q (Ok a) (Ok b) h only k also = refl
+check_settled P q (Ok a) (Err b) h only k also = absurd (false≢true (k.1 (h.0 refl)))
+check_settled P q (Err a) (Ok b) h only k also = absurd (false≢true (h.1 (k.0 refl)))
+check_settled P q (Err a) (Err b) h only k also = ap Err (only ∙ sym also)
+
+abbrev passed : Result (Unit {0}) Refusal
+passed = Ok tt
+
+abbrev stopped : Refusal → Result (Unit {0}) Refusal
+stopped q = Err q
+
+-- no node 0
+pub node-zero-taken : (IsOk passed ↔ (not_node (shape 3 2) 0 ≡ false)) → ⊥
+unfolding not_node
+node-zero-taken p = true≢false (p.0 refl)
+
+-- node n is one
+pub last-node-refused : (q : Refusal) → (IsOk (stopped q) ↔ (not_node (shape 3 2) 3 ≡ false)) → ⊥
+unfolding not_node
+last-node-refused q p = false≢true (p.1 refl)
+
+-- a longer buffer
+pub longer_taken : (IsOk passed ↔ (◌≡◌ {A = ℕ} 13 12)) → ⊥
+longer_taken p = let e : ◌≡◌ {A = ℕ} 13 12 = p.0 refl in omega arith
+
+pub exact_refused : (q : Refusal) → (IsOk (stopped q) ↔ (◌≡◌ {A = ℕ} 12 12)) → ⊥
+exact_refused q p = false≢true (p.1 refl)
