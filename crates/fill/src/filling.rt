@@ -20,34 +20,45 @@ fn stands(stripe: &[u8], shape: Shape, z: Sizes, count: usize) -> bool
     requires stripe_len { length stripe.now ≡ stripe_length shape }
     ensures { Standing shape count stripe.now result }
 {
-    if count == z.shape.r {
-        return true;
-    }
-    let Tested::Whole = test(shape, stripe) else {
-        return false;
-    };
-    true
+    count == z.shape.r || matches!(test(shape, stripe), Tested::Whole)
 }
 
-// Fills the lost columns of one stripe, or answers that no whole stripe has its survivors. Nothing is written before it is known that the stripe can be
-// filled, and no old byte of a lost column is read.
+// Fills the lost columns of one stripe, in scratch as long, or answers that no whole stripe has its survivors. Nothing is written before it is known that the
+// stripe can be filled, and no old byte of a lost column is read.
+fn fill_in(
+    scratch: &mut [u8],
+    stripe: &mut [u8],
+    shape: Shape,
+    z: Sizes,
+    flags: [bool; 16],
+    count: usize,
+) -> bool
+    requires sizes_are { SizesAre shape z }
+    requires scratch_len { length scratch.old ≡ stripe_length shape }
+    requires stripe_len { length stripe.old ≡ stripe_length shape }
+    requires count_value { (count ≡ count_of shape.n (chosen flags)) × (count ≤ shape.r) × NoneFrom shape.n flags }
+    ensures { FilledOne shape flags count stripe.old result stripe.new }
+{
+    let kept = others_of(flags);
+    // No call refuses: the shape is accepted, the lengths are exact, at most r of the n nodes are lost.
+    copy_columns(scratch, stripe, kept, z.shape.n, z.l);
+    fill_levels(shape, flags, scratch);
+    let accepted = stands(scratch, shape, z, count);
+    if accepted {
+        copy_columns(stripe, scratch, flags, z.shape.n, z.l);
+    }
+    accepted
+}
+
+// The same, with scratch of its own.
 fn fill_one(stripe: &mut [u8], shape: Shape, z: Sizes, flags: [bool; 16], count: usize) -> bool
     requires sizes_are { SizesAre shape z }
     requires stripe_len { length stripe.old ≡ stripe_length shape }
     requires count_value { (count ≡ count_of shape.n (chosen flags)) × (count ≤ shape.r) × NoneFrom shape.n flags }
     ensures { FilledOne shape flags count stripe.old result stripe.new }
 {
-    let end = z.shape.n * z.l;
-    let kept = others_of(flags);
-    // No call refuses: the shape is accepted, the lengths are exact, at most r of the n nodes are lost.
     let mut scratch = [0u8; 4096];
-    copy_columns(&mut scratch[..end], stripe, kept, z.shape.n, z.l);
-    fill_levels(shape, flags, &mut scratch[..end]);
-    let accepted = stands(&scratch[..end], shape, z, count);
-    if accepted {
-        copy_columns(stripe, &scratch[..end], flags, z.shape.n, z.l);
-    }
-    accepted
+    fill_in(&mut scratch[..z.shape.n * z.l], stripe, shape, z, flags, count)
 }
 
 // Fills the lost columns, bit i − 1 of `lost` for node i, so that the stripe is whole.
@@ -63,7 +74,7 @@ pub fn fill(shape: Shape, lost: u16, stripe: &mut [u8]) -> Outcome
     if (lost as usize) >> z.shape.n != 0 {
         return Outcome::Refused(3);
     }
-    let count = u16::count_ones(lost) as usize;
+    let count = lost.count_ones() as usize;
     if z.shape.r < count {
         return Outcome::Refused(4);
     }
