@@ -9,6 +9,8 @@ use native.Mathlib.Omega.{arith}
 use lib.Dec.{ltb, leb}
 use lib.ListN.{get_or, replicate}
 use lib.Seq.{ext_get_or}
+use Rattle.std.specs.Prelude.{Result, Ok, Err, IsOk}
+use Rattle.rules.specs.declared.refusals.Misfit.{Misfit}
 use Rattle.rules.specs.Lost.{is_lost}
 use Rattle.rules.proofs.Stripes.{by_columns}
 use Rattle.lost.specs.Promise.{FlagsAre, OthersAre, Copied, Copyable, CopiedAre}
@@ -46,37 +48,38 @@ others-short p = true≢false (sym (p.each 2 (omega arith)))
 
 module _ (flags : List Bool) (n l : ℕ) (from before : List ℕ) where
   -- what can be copied is copied
-  pub copied-true : (answer : Bool) (later : List ℕ) → CopiedAre flags n l from before answer later → Copyable n l from before → answer ≡ true
-  copied-true true later p way = refl
-  copied-true false later p way = absurd (p.cannot refl way)
+  pub copied-ok : (answer : Result (Unit {0}) Misfit) (later : List ℕ) → CopiedAre flags n l from before answer later → Copyable n l from before → IsOk answer
+  copied-ok (Ok done) later p way = refl
+  copied-ok (Err misfit) later p way = absurd (p.cannot refl way)
 
   copied-only : Copyable n l from before → (x y : List ℕ) → Copied flags n l from before x → Copied flags n l from before y → x ≡ y
   copied-only way x y p q =
       by_columns n l x y (p.same_length ∙ way.to_exact) (q.same_length ∙ way.to_exact) (λ i a hi ha. p.each i a hi ha ∙ sym (q.each i a hi ha))
 
-  pub copied_settled : (a b : Bool) (x y : List ℕ) → CopiedAre flags n l from before a x → CopiedAre flags n l from before b y → (a ≡ b) × (x ≡ y)
-  copied_settled true true x y p q = (refl, copied-only (p.can refl) x y (p.copied refl) (q.copied refl))
-  copied_settled true false x y p q = absurd (q.cannot refl (p.can refl))
-  copied_settled false true x y p q = absurd (p.cannot refl (q.can refl))
-  copied_settled false false x y p q = (refl, p.kept refl ∙ sym (q.kept refl))
+  pub copied_settled : (a b : Result (Unit {0}) Misfit) (x y : List ℕ) → CopiedAre flags n l from before a x → CopiedAre flags n l from before b y
+      → (a ≡ b) × (x ≡ y)
+  copied_settled (Ok done) (Ok done') x y p q = (refl, copied-only (p.can refl) x y (p.copied refl) (q.copied refl))
+  copied_settled (Ok done) (Err misfit) x y p q = absurd (q.cannot refl (p.can refl))
+  copied_settled (Err misfit) (Ok done) x y p q = absurd (p.cannot refl (q.can refl))
+  copied_settled (Err misfit) (Err misfit') x y p q = (refl, p.kept refl ∙ sym (q.kept refl))
 
-abbrev CopiedSecond : Bool → List ℕ → Type 0
+abbrev CopiedSecond : Result (Unit {0}) Misfit → List ℕ → Type 0
 CopiedSecond answer later = CopiedAre (false ∷ true ∷ replicate 14 false) 2 1 (5 ∷ 6 ∷ []) (7 ∷ 8 ∷ []) answer later
 
--- false where it can be copied
-pub copied_refuses : (later : List ℕ) → CopiedSecond false later → ⊥
-copied_refuses later p = p.cannot refl (record { few = omega arith; short = omega arith; to_exact = refl; from_exact = refl })
+-- a misfit where it can be copied
+pub copied_refuses : (misfit : Misfit) (later : List ℕ) → CopiedSecond (Err misfit) later → ⊥
+copied_refuses misfit later p = p.cannot refl (record { few = omega arith; short = omega arith; to_exact = refl; from_exact = refl })
 
-pub copied_writes_nothing : CopiedSecond true (7 ∷ 8 ∷ []) → ⊥
+pub copied_writes_nothing : CopiedSecond (Ok tt) (7 ∷ 8 ∷ []) → ⊥
 copied_writes_nothing p = let e : ◌≡◌ {A = ℕ} 8 6 = (p.copied refl).each 1 0 (omega arith) (omega arith) in omega arith
 
 -- the first column, which isn't chosen, is copied too
-pub copied_writes_all : CopiedSecond true (5 ∷ 6 ∷ []) → ⊥
+pub copied_writes_all : CopiedSecond (Ok tt) (5 ∷ 6 ∷ []) → ⊥
 copied_writes_all p = let e : ◌≡◌ {A = ℕ} 5 7 = (p.copied refl).each 0 0 (omega arith) (omega arith) in omega arith
 
 -- a wrong length: taken; or refused, and a byte is written
-pub copied_takes_short : (later : List ℕ) → CopiedAre (replicate 16 true) 2 1 (5 ∷ []) (7 ∷ 8 ∷ []) true later → ⊥
+pub copied_takes_short : (later : List ℕ) → CopiedAre (replicate 16 true) 2 1 (5 ∷ []) (7 ∷ 8 ∷ []) (Ok tt) later → ⊥
 copied_takes_short later p = let e : ◌≡◌ {A = ℕ} 1 2 = (p.can refl).from_exact in omega arith
 
-pub copied-refused_writes : CopiedAre (replicate 16 true) 2 1 (5 ∷ []) (7 ∷ 8 ∷ []) false (5 ∷ 8 ∷ []) → ⊥
-copied-refused_writes p = let e : ◌≡◌ {A = ℕ} 5 7 = ap (λ (xs : List ℕ). get_or xs 0 0) (p.kept refl) in omega arith
+pub copied-refused_writes : (misfit : Misfit) → CopiedAre (replicate 16 true) 2 1 (5 ∷ []) (7 ∷ 8 ∷ []) (Err misfit) (5 ∷ 8 ∷ []) → ⊥
+copied-refused_writes misfit p = let e : ◌≡◌ {A = ℕ} 5 7 = ap (λ (xs : List ℕ). get_or xs 0 0) (p.kept refl) in omega arith

@@ -3,8 +3,10 @@
 --   OthersAre flags others == `others_of`: each flag turned round
 --   Copied flags n l from before later == the chosen columns of the n are those of `from`, the others stay
 --   Copyable n l from before == what is given can be copied: at most 16 columns of at most 256 bytes, and n × l bytes in both buffers
---   CopiedAre == `copy_columns`: true exactly where it can be copied, and then every later byte is settled by what is copied; else nothing is written
-use Rattle.std.specs.Prelude.{◌≡◌, Bool, true, false, not, cond, List, ℕ, suc, ◌+◌, ◌*◌, ◌<◌, ◌≤◌, length, get_or}
+--   CopiedAre == `copy_columns`: done exactly where it can be copied, and then every later byte is settled by what is copied; else a misfit, and nothing is
+--                         written
+use Rattle.std.specs.Prelude.{◌≡◌, Bool, not, cond, List, ℕ, suc, ◌+◌, ◌*◌, ◌<◌, ◌≤◌, length, get_or, Result, IsOk, IsErr}
+use Rattle.rules.specs.declared.refusals.Misfit.{Misfit}
 use Rattle.corrections.specs.Correction.{chosen}
 
 pub record FlagsAre (L : ℕ → Bool) (flags : List Bool) : Type 0 where
@@ -26,8 +28,8 @@ pub record Copyable (n l : ℕ) (from before : List ℕ) : Type 0 where
   pub to_exact : length before ≡ n * l
   pub from_exact : length from ≡ n * l
 
-pub record CopiedAre (flags : List Bool) (n l : ℕ) (from before : List ℕ) (answer : Bool) (later : List ℕ) : Type 0 where
-  pub can : answer ≡ true → Copyable n l from before
-  pub copied : answer ≡ true → Copied flags n l from before later
-  pub cannot : answer ≡ false → Copyable n l from before → ⊥
-  pub kept : answer ≡ false → later ≡ before
+pub record CopiedAre (flags : List Bool) (n l : ℕ) (from before : List ℕ) (answer : Result (Unit {0}) Misfit) (later : List ℕ) : Type 0 where
+  pub can : IsOk answer → Copyable n l from before
+  pub copied : IsOk answer → Copied flags n l from before later
+  pub cannot : IsErr answer → Copyable n l from before → ⊥
+  pub kept : IsErr answer → later ≡ before
