@@ -1,5 +1,5 @@
 // The nodes that are chosen to be filled: how many, which, their points, and the scores of rows against them. Every function that is named here takes every
-// input: none has a `requires`. (`over` and `score_of` have one, and can't be named from outside.) What each promises is a record of specs/Promise.antt.
+// input: none has a `requires`. (`over` has one, and can't be named from outside.) What each promises is a record of specs/Promise.antt.
 #![tactic(auto)]
 
 mod choosing;

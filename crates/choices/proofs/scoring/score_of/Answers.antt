@@ -17,12 +17,12 @@ use Rattle.choices.proofs.scoring.score_of.Goals as goal
 use Rattle.choices.proofs.scoring.score_of.Goals.{then-flags-v, else-flags-v}
 
 pub loop-v-init : goal.loop-v-init
-loop-v-init c = record { counted = sym (count-zero _); digits = sym (ap (λ w. c.args.a / w) (pow-zero c.args.s) ∙ div-one c.args.a) }
+loop-v-init c = record { counted = sym (count-zero _); digits = sym (ap (λ w. c.args.a / w) (pow-zero c.args.z.s) ∙ div-one c.args.a) }
 
 pub overflow_add-sum : goal.overflow_add-sum
-overflow_add-sum c = record {
-  fits = omega (arith, count_le c.loop-v.v (scored c.args.s no_group (chosen c.args.flags) c.args.a), le-mul_of_pos_right c.args.m c.requires.0);
-}
+overflow_add-sum c =
+    let some : 0 < c.args.z.s = omega arith in
+    record { fits = omega (arith, count_le c.loop-v.v (scored c.args.z.s no_group (chosen c.args.flags) c.args.a), le-mul_of_pos_right c.args.z.m some) }
 
 module _ (s : ℕ) (flags : List Bool) (a v : ℕ) {rest left : ℕ} (some : 0 < s) (digits : rest ≡ a / s ^ v) (is : left ≡ rest / s) where
   -- the code's flag is that of the node that the digit names
@@ -47,18 +47,18 @@ module _ (s : ℕ) (flags : List Bool) (a v : ℕ) {rest left : ℕ} (some : 0 <
 pub loop-v-preserved : goal.loop-v-preserved
 loop-v-preserved c =
     let now = c.loop-v in
-    let some = c.requires.0 in
+    let some : 0 < c.args.z.s = omega arith in
     record {
       counted = elim c.if-flags-v.branch [
-        | then-flags-v w ↦ counts-here c.args.s c.args.flags c.args.a now.v some now.invariant.digits c.over-left.ensures true w.if-flags-v.true now.invariant.counted w.sum-is
-        | else-flags-v w ↦ counts-here c.args.s c.args.flags c.args.a now.v some now.invariant.digits c.over-left.ensures false w.if-flags-v.false now.invariant.counted
+        | then-flags-v w ↦ counts-here c.args.z.s c.args.flags c.args.a now.v some now.invariant.digits c.over-left.ensures true w.if-flags-v.true now.invariant.counted w.sum-is
+        | else-flags-v w ↦ counts-here c.args.z.s c.args.flags c.args.a now.v some now.invariant.digits c.over-left.ensures false w.if-flags-v.false now.invariant.counted
             (w.sum-is ∙ sym (add-zero _))
       ];
-      digits = digits_next c.args.s c.args.flags c.args.a now.v some now.invariant.digits c.over-left.ensures;
+      digits = digits_next c.args.z.s c.args.flags c.args.a now.v some now.invariant.digits c.over-left.ensures;
     }
 
 pub returns : goal.returns
 unfolding score
 returns c =
-    let e : c.loop-v.v ≡ c.args.m = omega arith in
-    c.loop-v.invariant.counted ∙ ap (λ k. count k (scored c.args.s no_group (chosen c.args.flags) c.args.a)) e
+    let e : c.loop-v.v ≡ c.args.z.m = omega arith in
+    c.loop-v.invariant.counted ∙ ap (λ k. count k (scored c.args.z.s no_group (chosen c.args.flags) c.args.a)) e
