@@ -6,7 +6,7 @@
 --   RowsStaged factors before later == `stage`: every column of the table so
 --   GivenStaged factors before later == `given_stage`: the numbers given so
 --   dotted row found      == the sum of the four products
---   DotIs, QuotientOf     == `dot`, `quotient`
+--   DotIs                 == `dot`
 --   Triangle count rows   == in the first `count` rows, 0 below the diagonal and not 0 on it
 --   Substituted count rows given found == `substituted`: found is four bytes, 0 past `count`; the first `count` rows times found are the numbers given
 use Rattle.std.specs.Prelude.{◌≡◌, List, ℕ, zero, suc, ◌<◌, ◌≤◌, get_or}
@@ -39,9 +39,6 @@ dotted row found = sum_below 4 (λ j. mul (row j) (found j))
 
 pub record DotIs (row found : List ℕ) (sum : ℕ) : Type 0 where
   pub value : sum ≡ dotted (λ j. get_or row j 0) (λ j. get_or found j 0)
-
-pub record QuotientOf (a b q : ℕ) : Type 0 where
-  pub value : mul q b ≡ a
 
 pub record Triangle (count : ℕ) (rows : List (List ℕ)) : Type 0 where
   pub below : (i j : ℕ) → i < count → j < i → entry rows i j ≡ 0

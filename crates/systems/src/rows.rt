@@ -1,10 +1,10 @@
 // What the row solver does with rows of numbers: the table of powers, a stage of the elimination, back substitution. Functions of this module may have a
 // `requires`; none can be named from outside the crate.
-ghost use Rattle.std.specs.Prelude.{◌≤◌, ◌<◌};
-ghost use Rattle.systems.specs.Kernel.{PowersAre, Products, Gained, RowsStaged, GivenStaged, DotIs, QuotientOf, Triangle, Substituted};
+ghost use Rattle.std.specs.Prelude.{◌≤◌};
+ghost use Rattle.systems.specs.Kernel.{PowersAre, Products, Gained, RowsStaged, GivenStaged, DotIs, Triangle, Substituted};
 
 use field::times;
-use tables::{Quotient, divide};
+use tables::divide;
 
 // Four products.
 fn products(xs: [u8; 4], ys: [u8; 4]) -> [u8; 4]
@@ -63,17 +63,6 @@ fn dot(row: [u8; 4], found: [u8; 4]) -> u8
     a ^ b ^ c ^ d
 }
 
-// The quotient, by a number that isn't 0.
-fn quotient(a: u8, b: u8) -> u8
-    requires { 0 < b }
-    ensures { QuotientOf a b result }
-{
-    let Quotient::Number(q) = divide(a, b) else {
-        return 0;
-    };
-    q
-}
-
 // Back substitution. The unknowns that aren't found yet are 0, and so are those past `count`: neither counts in a row's sum.
 pub fn substituted(count: usize, rows: [[u8; 4]; 4], given: [u8; 4]) -> [u8; 4]
     requires count_bound { count ≤ 4 }
@@ -83,7 +72,7 @@ pub fn substituted(count: usize, rows: [[u8; 4]; 4], given: [u8; 4]) -> [u8; 4]
     let mut found = [0; 4];
     for h in (0..count).rev() {
         let row = rows[h];
-        found[h] = quotient(given[h] ^ dot(row, found), row[h]);
+        found[h] = divide(given[h] ^ dot(row, found), row[h]).unwrap();
     }
     found
 }
