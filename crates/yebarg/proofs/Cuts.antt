@@ -1,36 +1,86 @@
--- A fraction that is cut. In order: the row taken, in the code's numbers; what a fraction holds there; that bytes taken at the rows which have the failed
--- node's place as the digit of its group are the fraction.
-use mathlib.Core.Path.{◌≡◌, sym, ap, ◌∙◌}
+-- A fraction that is cut. In order: what the code takes it by; that bytes taken at the rows which have the failed node's place as the digit of its group are
+-- the fraction.
+--   Cutting sh f s w n l == node f is one of the shape's, s and w are the base and what the digit of its group counts, and a fraction of n bytes is cut from
+--                           a column of l
+use mathlib.Core.Path.{◌≡◌, sym, ap, ap₂, ◌∙◌}
 use mathlib.Core.List.{List}
-use Prim.Native.Nat.{ℕ, ◌≤◌, ◌<◌}
+use mathlib.Core.Option.{none}
+use Prim.Native.Nat.{ℕ, ◌+◌, ◌-◌, ◌*◌, ◌/◌, ◌%◌, ◌≤◌, ◌<◌}
+use native.Mathlib.Nat.{mod-lt}
 use native.Mathlib.Omega.{arith}
 use lib.ListN.{length, get_or}
 use lib.Seq.{ext_get_or}
 use Rattle.rules.specs.declared.shapes.Shape.{Shape}
-use Rattle.rules.specs.Shape.{group_size, group, place, worth}
+use Rattle.rules.specs.declared.shapes.Sizes.{Sizes}
+use Rattle.rules.specs.Shape.{group_size, rows, group, place, worth}
 use Rattle.rules.specs.Fraction.{fraction_length, fraction}
-use Rattle.rules.proofs.Accepted.{Bounds}
-use Rattle.rules.proofs.RowsRead.{fraction-length, fraction-at}
+use Rattle.rules.specs.Promise.{WorthIs}
+use Rattle.rules.specs.Refusal.{shape_refusal}
+use Rattle.rules.proofs.Accepted.{Bounds, bounds}
+use Rattle.rules.proofs.RowsRead.{worth-some, group-most, fraction-worth, fraction-times, fraction-length, fraction-at}
 use Rattle.yebarg.specs.Kernel.{row_at, Taken}
 
-row-taken : (sh : Shape) (f : ℕ) {s w u : ℕ} → s ≡ group_size sh → w ≡ worth sh (group sh f) → u ≡ place sh f → (j : ℕ)
-    → row_at s w u j ≡ row_at (group_size sh) (worth sh (group sh f)) (place sh f) j
-row-taken sh f {s} {w} {u} s-is w-is u-is j =
-    ap (λ x. row_at x w u j) s-is ∙ ap (λ x. row_at (group_size sh) x u j) w-is ∙ ap (λ x. row_at (group_size sh) (worth sh (group sh f)) x j) u-is
+pub record Cutting (sh : Shape) (f s w n l : ℕ) : Type 0 where
+  pub taken : shape_refusal sh ≡ none
+  pub first : 1 ≤ f
+  pub last : f ≤ sh.n
+  pub base : s ≡ group_size sh
+  pub counted : w ≡ worth sh (group sh f)
+  pub at : (f - 1) % s ≡ place sh f
+  pub part : n ≡ fraction_length sh
+  -- what follows
+  pub counts : 0 < w
+  pub inside : (f - 1) % s < s
+  pub short : l ≤ 256
+  pub whole : n * s ≡ l
+  pub periods : n % w ≡ 0
 
-module _ (sh : Shape) (b : Bounds sh) (f : ℕ) (first : 1 ≤ f) (last : f ≤ sh.n) where
-  fraction-row : (col : List ℕ) (j : ℕ) → j < fraction_length sh
-      → get_or (fraction sh f col) j 0 ≡ get_or col (row_at (group_size sh) (worth sh (group sh f)) (place sh f) j) 0
-  unfolding row_at
-  fraction-row col j h = fraction-at sh b f first last col j h
+pub cutting : (sh : Shape) (z : Sizes) {f w n l : ℕ} → z.shape ≡ sh → 1 ≤ f → f ≤ z.shape.n → WorthIs sh ((f - 1) / z.s + 1) w
+    → n ≡ fraction_length z.shape
+    → l ≡ z.l
+    → Cutting sh f z.s w n l
+unfolding group place
+cutting sh z {f} {w} {n} {l} same first last is part-is l-is =
+    let taken : shape_refusal sh ≡ none = sym (ap shape_refusal same) ∙ z.of_shape.taken in
+    let b = bounds sh taken in
+    let last-is : f ≤ sh.n = omega (arith, ap (λ (x : Shape). x.n) same) in
+    let base : z.s ≡ group_size sh = z.of_shape.s-is ∙ ap group_size same in
+    let group-is : (f - 1) / z.s + 1 ≡ group sh f = ap (λ s. (f - 1) / s + 1) base in
+    let counted : w ≡ worth sh (group sh f) =
+    is.inside taken (omega arith) (omega (arith, group-is, group-most sh b f first last-is)) ∙ ap (worth sh) group-is in
+    let part : n ≡ fraction_length sh = part-is ∙ ap fraction_length same in record {
+      taken = taken;
+      first = first;
+      last = last-is;
+      base = base;
+      counted = counted;
+      at = ap (λ s. (f - 1) % s) base;
+      part = part;
+      counts = omega (arith, counted, worth-some sh b (group sh f));
+      inside = mod-lt (f - 1) (omega (arith, z.of_shape.s-least));
+      short = omega (arith, z.of_shape.l-most);
+      whole = ap₂ (λ (x y : ℕ). x * y) part base ∙ fraction-times sh b ∙ sym (l-is ∙ z.of_shape.l-is ∙ ap rows same);
+      periods = ap₂ (λ (x y : ℕ). x % y) part counted ∙ fraction-worth sh b f first last-is;
+    }
 
-  pub taken→fraction : {s w u : ℕ} {col before later : List ℕ} → s ≡ group_size sh → w ≡ worth sh (group sh f) → u ≡ place sh f
-      → length before ≡ fraction_length sh → Taken s w u col before later → later ≡ fraction sh f col
-  taken→fraction {s} {w} {u} {col} {before} {later} s-is w-is u-is long t =
-      ext_get_or 0 later (fraction sh f col) (t.same_length ∙ long ∙ sym (fraction-length sh b f first last col)) byte
-    where
-      byte : (j : ℕ) → j < length later → get_or later j 0 ≡ get_or (fraction sh f col) j 0
-      byte j h =
-          t.bytes j (omega (arith, t.same_length))
-          ∙ ap (λ a. get_or col a 0) (row-taken sh f s-is w-is u-is j)
-          ∙ sym (fraction-row col j (omega (arith, t.same_length)))
+pub taken→fraction : {sh : Shape} {f s w l : ℕ} {col before later : List ℕ} → Cutting sh f s w (length before) l
+    → Taken s w ((f - 1) % s) col before later
+    → later ≡ fraction sh f col
+unfolding row_at
+taken→fraction {sh} {f} {s} {w} {l} {col} {before} {later} h t =
+    ext_get_or 0 later (fraction sh f col) (t.same_length ∙ h.part ∙ sym (fraction-length sh b f h.first h.last col)) byte
+  where
+    b : Bounds sh
+    b = bounds sh h.taken
+
+    row-taken : (j : ℕ) → row_at s w ((f - 1) % s) j ≡ row_at (group_size sh) (worth sh (group sh f)) (place sh f) j
+    row-taken j =
+        ap (λ x. row_at x w ((f - 1) % s) j) h.base
+        ∙ ap (λ x. row_at (group_size sh) x ((f - 1) % s) j) h.counted
+        ∙ ap (λ x. row_at (group_size sh) (worth sh (group sh f)) x j) h.at
+
+    byte : (j : ℕ) → j < length later → get_or later j 0 ≡ get_or (fraction sh f col) j 0
+    byte j k =
+        t.bytes j (omega (arith, t.same_length))
+        ∙ ap (λ a. get_or col a 0) (row-taken j)
+        ∙ sym (fraction-at sh b f h.first h.last col j (omega (arith, t.same_length, h.part)))

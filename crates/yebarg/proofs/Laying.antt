@@ -9,8 +9,8 @@ use lib.ListN.{length, drop, replicate, length-append, length-replicate, length-
 use lib.Seq.{take_at, drop_at}
 use Rattle.rules.specs.declared.shapes.Shape.{Shape}
 use Rattle.rules.specs.Stripe.{stripe_length, data_length, laid, read_back}
-use Rattle.yebarg.specs.declared.answers.Outcome.{Outcome}
-use Rattle.yebarg.specs.declared.answers.Outcome.TheVariants.{Done}
+use Rattle.std.specs.Prelude.{Result, Ok}
+use Rattle.rules.specs.declared.refusals.Refusal.{Refusal}
 use Rattle.yebarg.specs.Refusal.{lay_refusal, read_back_refusal}
 use Rattle.yebarg.specs.Promise.{LayMeets, ReadBackMeets}
 use Rattle.rules.proofs.Lengths.{data_most}
@@ -24,7 +24,7 @@ padded sh rec = rec ++ replicate (data_length sh - length rec) 0
 padded-length : (sh : Shape) (rec : List ℕ) → length rec ≤ data_length sh → length (padded sh rec) ≡ data_length sh
 padded-length sh rec h = simp (length-append, length-replicate) (add-sub_of_le h)
 
-pub lay_keeps_parity : (sh : Shape) (rec stripe : List ℕ) (x : Outcome) (later : List ℕ) → LayMeets sh rec stripe x later
+pub lay_keeps_parity : (sh : Shape) (rec stripe : List ℕ) (x : Result (Unit {0}) Refusal) (later : List ℕ) → LayMeets sh rec stripe x later
     → drop (data_length sh) later ≡ drop (data_length sh) stripe
 unfolding laid
 lay_keeps_parity sh rec stripe x later p = go (lay_refusal sh rec stripe) refl
@@ -51,11 +51,11 @@ module _ (sh : Shape) (rec stripe buffer : List ℕ) (taken : lay_refusal sh rec
   unfolding laid read_back
   laid-read = take_at (padded sh rec) (drop (data_length sh) stripe) (data_length sh) (padded-length sh rec short)
 
-  pub read-back-after-lay : length buffer ≡ data_length sh → (x y : Outcome) (later read : List ℕ)
+  pub read-back-after-lay : length buffer ≡ data_length sh → (x y : Result (Unit {0}) Refusal) (later read : List ℕ)
       → LayMeets sh rec stripe x later → ReadBackMeets sh later buffer y read
-      → (y ≡ Done) × (read ≡ rec ++ replicate (data_length sh - length rec) 0)
+      → (y ≡ Ok tt) × (read ≡ rec ++ replicate (data_length sh - length rec) 0)
   read-back-after-lay long x y later read p q =
       let later-is : later ≡ laid sh rec stripe = p.stripe-later.written taken in
       let accepted : read_back_refusal sh later buffer ≡ none =
       read-back-accepted sh later buffer (lay-taken sh rec stripe taken).0 (ap length later-is ∙ laid-length) long in
-      (refusal-only y Done (q.answered ∙ accepted), q.buffer_later.written accepted ∙ ap (read_back sh) later-is ∙ laid-read)
+      (refusal-only y (Ok tt) (q.answered ∙ accepted), q.buffer_later.written accepted ∙ ap (read_back sh) later-is ∙ laid-read)

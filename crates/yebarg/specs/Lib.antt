@@ -1,9 +1,7 @@
 -- What the entries promise. The rules that they cite are in crate `rules`.
---   Answer  == the number and the values of each case of an answer
 --   Refusal == the refusals of each entry, in order
 --   Promise == what each entry promises
 --   Kernel  == what the private functions over the bytes of columns do; no promise of an entry cites it
-pub mod Answer
 pub mod Refusal
 pub mod Promise
 pub mod Kernel

@@ -3,46 +3,32 @@ ghost use Rattle.std.specs.Prelude.{◌≡◌, ◌≤◌, ◌<◌, ◌*◌, ◌%
 ghost use Rattle.yebarg.specs.Kernel.{Taken};
 ghost use Rattle.yebarg.specs.Promise.{CutMeets};
 
-use crate::answers::Outcome;
-use rules::{Shape, measure, worth};
+use rules::{Refusal, Shape, check_len, measure, worth};
 
 // What the helper gives to rebuild the failed node: its column's bytes at the rows with the failed node's digit, in rising row order.
+#[tactic(auto, unfolding(crate::specs::Refusal::cut_refusal, rules::specs::Refusal::shape_refusal))]
 pub fn cut(
     shape: Shape,
     helper: usize,
     failed: usize,
     column: &[u8],
     fraction: &mut [u8],
-) -> Outcome
+) -> Result<(), Refusal>
     ensures { CutMeets shape helper failed column.now fraction.old result fraction.new }
 {
     let Ok(z) = measure(shape) else {
-        return Outcome::Refused(1);
+        return Err(Refusal::BadShape);
     };
-    if column.len() != z.l {
-        return Outcome::Refused(2);
-    }
-    if fraction.len() != z.l / z.s {
-        return Outcome::Refused(2);
-    }
-    if helper < 1 {
-        return Outcome::Refused(3);
-    }
-    if z.shape.n < helper {
-        return Outcome::Refused(3);
-    }
-    if failed < 1 {
-        return Outcome::Refused(3);
-    }
-    if z.shape.n < failed {
-        return Outcome::Refused(3);
-    }
+    check_len(column, z.l)?;
+    check_len(fraction, z.fraction_len())?;
+    z.check_node(helper)?;
+    z.check_node(failed)?;
     if helper == failed {
-        return Outcome::Refused(3);
+        return Err(Refusal::BadNode);
     }
     let v = (failed - 1) / z.s + 1;
     take_rows(column, z.s, worth(shape, v), (failed - 1) % z.s, fraction);
-    Outcome::Done
+    Ok(())
 }
 
 // The bytes of a column at the rows that have u as the digit that counts w.

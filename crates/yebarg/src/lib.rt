@@ -5,12 +5,8 @@
 // (Of the private functions `take_rows` has a `requires`: it can't be named from outside.)
 #![tactic(auto)]
 
-mod answers;
 mod cutting;
 mod records;
-
-// What an entry that writes answers, here and in the crates above.
-pub use answers::Outcome;
 
 // A record, laid into a stripe and read back.
 pub use records::{lay, read_back};

@@ -16,7 +16,7 @@ in_place c =
     omega (
       arith,
       row-within c.args.s c.args.w c.args.u (length c.args.fraction.now) c.loop-j.j c.requires.w_nonzero.0 c.requires.w_nonzero.1 c.requires.w_len
-      (omega arith),
+          (omega arith),
       c.requires.column_len_bound.1,
     )
 
