@@ -7,6 +7,7 @@ ghost use Rattle.solver.specs.Promise.{UnknownsAre};
 
 use columns::add_multiple;
 use distinct::apart;
+use rules::Misfit;
 use systems::solve;
 
 // The constants: row t solves for a sum 1 of the powers t, and sums 0 of the others.
@@ -59,24 +60,24 @@ fn write(count: usize, rows: [[u8; 4]; 4], size: usize, sums: &[u8], found: &mut
 }
 
 // Finds `count` unknowns for each of `size` rows, and writes them column by column: at every row and for t from 0 to count − 1 the sum of point j to the
-// power t times unknown j is what column t of the sums has there. False, and nothing written, where there are more than four points or two are equal,
+// power t times unknown j is what column t of the sums has there. A misfit, and nothing written, where there are more than four points or two are equal,
 // where a column has more than 256 bytes, or where the sums or what is to be written don't have count × size bytes.
-pub fn unknowns(count: usize, points: [u8; 4], size: usize, sums: &[u8], found: &mut [u8]) -> bool
+pub fn unknowns(
+    count: usize,
+    points: [u8; 4],
+    size: usize,
+    sums: &[u8],
+    found: &mut [u8],
+) -> Result<(), Misfit>
     ensures { UnknownsAre count points size sums.now found.old result found.new }
 {
-    if !apart(count, points) {
-        return false;
+    if !apart(count, points) || 256 < size {
+        return Err(Misfit);
     }
-    if 256 < size {
-        return false;
-    }
-    if sums.len() != count * size {
-        return false;
-    }
-    if found.len() != count * size {
-        return false;
+    if sums.len() != count * size || found.len() != count * size {
+        return Err(Misfit);
     }
     let rows = constants(count, points);
     write(count, rows, size, sums, found);
-    true
+    Ok(())
 }
