@@ -22,13 +22,13 @@ of_three P (suc (suc (suc (suc (suc s))))) a b c low high = absurd (omega arith)
 ceil_is : (n s : ℕ) → 2 ≤ s → s ≤ 4 → div_ceil n s ≡ (n + s - 1) / s
 ceil_is n s low high = of_three (λ (s : ℕ). div_ceil n s ≡ (n + s - 1) / s) s (omega arith) (omega arith) (omega arith) low high
 
-pub groups_few : (n s : ℕ) → 2 ≤ s → s ≤ 4 → n ≤ 16 → div_ceil n s ≤ 8
-groups_few n s low high h = of_three (λ (s : ℕ). div_ceil n s ≤ 8) s (omega arith) (omega arith) (omega arith) low high
+pub groups_few : (n s : ℕ) → 2 ≤ s → s ≤ 4 → n ≤ 30 → div_ceil n s ≤ 15
+groups_few n s low high h = of_three (λ (s : ℕ). div_ceil n s ≤ 15) s (omega arith) (omega arith) (omega arith) low high
 
-pub power-fits : (s m : ℕ) → s ≤ 4 → m ≤ 8 → s ^ m ≤ 65536
+pub power-fits : (s m : ℕ) → s ≤ 4 → m ≤ 15 → s ^ m ≤ 1073741824
 power-fits s m a b =
     let p : s ^ m ≤ 4 ^ m = pow-le-pow_left a m in
-    let q : 4 ^ m ≤ 4 ^ 8 = pow-le-pow_right {n = 4} (omega arith) b in
+    let q : 4 ^ m ≤ 4 ^ 15 = pow-le-pow_right {n = 4} (omega arith) b in
     omega arith
 
 pub kept : (sh : Shape) → Bounds sh → AreSizes sh (data_nodes sh) (groups sh) (rows sh) (group_size sh)

@@ -13,9 +13,7 @@ use Rattle.rules.proofs.Sizing.{power-fits}
 use Rattle.rules.proofs.measuring.worth.Goals as goal
 
 pub pow-requires : goal.pow-requires
-pow-requires c =
-    let z = c.in-Ok.z in
-    omega (arith, power-fits z.s (c.args.v - 1) z.of_shape.s-most (omega (arith, z.of_shape.m-most, c.if-v-z.false)))
+pow-requires c = grind (arith, power-fits)
 
 -- where there is such a digit, nothing else is said
 there-is : (sh : Shape) (v w : ℕ) → shape_refusal sh ≡ none → 1 ≤ v → v ≤ groups sh → w ≡ worth sh v → WorthIs sh v w
