@@ -1,5 +1,5 @@
 -- Why the functions that sum keep their promises.
---   Refusals == from what the tests find to the refusal
+--   Refusals == what has passed all tests is not refused
 --   Groups   == the columns of a group as a part of the stripe
 --   Room     == how far the numbers of the loop over all nodes go
 --   Summing  == the running sums of the equations

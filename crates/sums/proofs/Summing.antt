@@ -1,15 +1,14 @@
 -- Laws of the running sums. In order: sums over the nodes 1 to i, one node more; sums that hold no node yet; one node's share added; the lowest failure
--- read off the sums of all nodes.
+-- read off the sums of all nodes; what the entries owe past their tests.
 use mathlib.Core.Path.{◌≡◌, refl, sym, ap, ap₂, ◌∙◌, subst}
 use mathlib.Core.Bool.{true}
-use mathlib.Core.List.{List, ◌++◌}
+use mathlib.Core.List.{List}
 use Prim.Native.Nat.{ℕ, suc, ◌+◌, ◌-◌, ◌*◌, ◌<◌, ◌≤◌, min}
 use native.Mathlib.Nat.{lt_trans, add-suc}
 use native.Mathlib.Numerals.{add-one}
 use native.Mathlib.Omega.{arith}
 use lib.ListN.{length, get_or, take, drop, replicate, length-replicate, get_or-replicate}
-use lib.Seq.{take_at}
-use Rattle.std.specs.Prelude.{Option, None, Some}
+use Rattle.std.specs.Prelude.{Option, None, Some, Ok}
 use Rattle.field.specs.Number.{add, mul, power}
 use Rattle.rules.specs.declared.shapes.Shape.{Shape}
 use Rattle.rules.specs.Shape.{group_size, groups, rows, worth}
@@ -23,11 +22,16 @@ use Rattle.rules.proofs.Measures.{sizes_of, sizes_are}
 use Rattle.rules.proofs.Risings.{rising→listed, listed→rising}
 use Rattle.weights.specs.Promise.{Shared, weight_at}
 use Rattle.sums.specs.Kernel.{SumsAre, partial, FoundIn}
-use Rattle.sums.specs.Answer.{FoundAt}
+use Rattle.sums.specs.Answer.{FoundIs}
+use Rattle.sums.specs.Refusal.{sums_refusal}
+use Rattle.sums.specs.Promise.{TestMeets, SumsMeet}
 use Rattle.sums.specs.declared.answers.Failure.{Failure}
 use Rattle.columns.proofs.Kernels.{entry-within}
 use Rattle.columns.proofs.Parts.{zeros-length, zeros-byte}
 use Rattle.sums.proofs.Groups.{part-weight}
+use Rattle.sums.proofs.Refusals.{test-accepted, sums-accepted}
+use Rattle.rules.specs.Refusal.{shape_refusal}
+use mathlib.Core.Option.{none, none-ne-some}
 
 module _ (sh : Shape) (C : Symbols) where
   pub partial-zero : (a t : ℕ) → partial sh C 0 a t ≡ 0
@@ -58,20 +62,23 @@ module _ (sh : Shape) (C : Symbols) where
         ∙ sym (partial-suc i a t);
   }
 
--- the sums of no node are zeros
-pub sums-zero : (sh : Shape) (C : Symbols) (r l k : ℕ) → r ≡ sh.r → l ≡ rows sh → r * l ≤ k → SumsAre sh C 0 (take (r * l) (replicate {A = ℕ} k 0))
-sums-zero sh C r l k is-r is-l few = record {
-  all = zeros-length (r * l) k few ∙ ap₂ (λ x y. x * y) is-r is-l;
-  bytes = λ t a ht ha.
-      zeros-byte (r * l) k few (t * rows sh + a) (rw (is-r, is-l) (entry-within ht ha)) ∙ sym (partial-zero sh C a t);
-}
+-- the sums of no node are zeros: a buffer that was cleared, and the front of an array of zeros
+pub sums-clear : (z : Sizes) (C : Symbols) (k : ℕ) → k ≡ z.shape.r * z.l → SumsAre z.shape C 0 (replicate k 0)
+sums-clear z C k exact =
+    let all : k ≡ z.shape.r * rows z.shape = exact ∙ ap (λ l. z.shape.r * l) z.of_shape.l-is in
+    record {
+      all = length-replicate {A = ℕ} k 0 ∙ all;
+      bytes = λ t a ht ha.
+          get_or-replicate k (t * rows z.shape + a) 0 0 (omega (arith, all, entry-within ht ha)) ∙ sym (partial-zero z.shape C a t);
+    }
 
--- the same of a buffer that was cleared
-pub sums-clear : (sh : Shape) (C : Symbols) (k : ℕ) → k ≡ sh.r * rows sh → SumsAre sh C 0 (replicate k 0)
-sums-clear sh C k exact = record {
-  all = length-replicate {A = ℕ} k 0 ∙ exact;
-  bytes = λ t a ht ha. get_or-replicate k (t * rows sh + a) 0 0 (omega (arith, exact, entry-within ht ha)) ∙ sym (partial-zero sh C a t);
-}
+pub sums-zero : (z : Sizes) (C : Symbols) (n k : ℕ) → n ≡ z.shape.r * z.l → n ≤ k → SumsAre z.shape C 0 (take n (replicate {A = ℕ} k 0))
+sums-zero z C n k exact few =
+    let all : n ≡ z.shape.r * rows z.shape = exact ∙ ap (λ l. z.shape.r * l) z.of_shape.l-is in
+    record {
+      all = zeros-length n k few ∙ all;
+      bytes = λ t a ht ha. zeros-byte n k few (t * rows z.shape + a) (omega (arith, all, entry-within ht ha)) ∙ sym (partial-zero z.shape C a t);
+    }
 
 -- One step of the loop over the nodes of group v: the group's columns are lent from a to e, w is what its digit counts, p the point of the node at place u.
 abbrev NodeStep : Shape → List ℕ → Sizes → Type 0
@@ -105,7 +112,7 @@ module _ (sh : Shape) (stripe sums : List ℕ) (all : SumsAre sh (symbol sh stri
   sum_is : (a t : ℕ) → a < rows sh → t < sh.r → get_or sums (t * rows sh + a) 0 ≡ equation sh (symbol sh stripe) a t
   sum_is a t ha ht = all.bytes t a ht ha ∙ partial-all sh (symbol sh stripe) a t
 
-  pub found-is : (found : Option Failure) → FoundIn sh.r (rows sh) sums found → FoundAt sh stripe found
+  pub found-is : (found : Option Failure) → FoundIn sh.r (rows sh) sums found → FoundIs sh stripe (Ok found)
   found-is None f = λ a ha t ht. sym (sum_is a t ha ht) ∙ f a t ha ht
   found-is (Some p) f = record {
     row_listed = rising→listed (rows sh) (λ a. true) p.row f.row_below refl;
@@ -115,16 +122,35 @@ module _ (sh : Shape) (stripe sums : List ℕ) (all : SumsAre sh (symbol sh stri
     lower-t = λ j hj. sym (sum_is p.row j f.row_below (lt_trans hj f.t-below)) ∙ f.lower-t j hj;
   }
 
--- the same where the sums are the front of a longer list
-pub found_from : (sh : Shape) (stripe sums rest : List ℕ) (r l : ℕ) (found : Option Failure)
-    → r ≡ sh.r
-    → l ≡ rows sh
-    → length sums ≡ r * l
-    → SumsAre sh (symbol sh stripe) (groups sh * group_size sh) sums
-    → FoundIn r l (take (r * l) (sums ++ rest)) found
-    → FoundAt sh stripe found
-found_from sh stripe sums rest r l found is-r is-l exact all in_sums =
-    found-is sh stripe sums all found
-    (subst (λ k. FoundIn sh.r k sums found) is-l
-    (subst (λ k. FoundIn k l sums found) is-r
-    (subst (λ xs. FoundIn r l xs found) (take_at sums rest (r * l) exact) in_sums)))
+-- what the entries owe where nothing is refused
+module _ (z : Sizes) (sh : Shape) (of_shape : z.shape ≡ sh) (stripe : List ℕ) (exact : length stripe ≡ stripe_length z.shape) (sums : List ℕ)
+    (all : SumsAre z.shape (symbol z.shape stripe) (groups z.shape * group_size z.shape) sums) where
+  all_sums : SumsAre sh (symbol sh stripe) (groups sh * group_size sh) sums
+  all_sums = subst (λ (s : Shape). SumsAre s (symbol s stripe) (groups s * group_size s) sums) of_shape all
+
+  taken : shape_refusal sh ≡ none
+  taken = subst (λ (s : Shape). shape_refusal s ≡ none) of_shape z.of_shape.taken
+
+  long : length stripe ≡ stripe_length sh
+  long = exact ∙ ap stripe_length of_shape
+
+  r_is : z.shape.r ≡ sh.r
+  r_is = ap (λ (s : Shape). s.r) of_shape
+
+  rows_are : z.l ≡ rows sh
+  rows_are = z.of_shape.l-is ∙ ap rows of_shape
+
+  pub summed : (before : List ℕ) → length before ≡ z.shape.r * z.l → SumsMeet sh stripe before (Ok tt) sums
+  summed before h =
+      let none_refused : sums_refusal sh stripe before ≡ none = sums-accepted sh stripe before taken long (h ∙ ap₂ (λ r l. r * l) r_is rows_are) in
+      record {
+        answered = sym none_refused;
+        written = λ e. record { all = all_sums.all; bytes = λ t a ht ha. all_sums.bytes t a ht ha ∙ partial-all sh _ a t };
+        kept = λ q e. absurd (none-ne-some q (sym none_refused ∙ e));
+      }
+
+  pub tested : (found : Option Failure) → FoundIn z.shape.r z.l sums found → TestMeets sh stripe (Ok found)
+  tested found is = record {
+    answered = sym (test-accepted sh stripe taken long);
+    found = found-is sh stripe sums all_sums found (subst (λ r. FoundIn r (rows sh) sums found) r_is (subst (λ l. FoundIn z.shape.r l sums found) rows_are is));
+  }

@@ -1,26 +1,22 @@
 // The sums of the equations of a stripe, node by node. `add_all` has a `requires`, and can't be named from outside the crate.
 ghost use Rattle.std.specs.Prelude.{◌≡◌, ◌*◌, length};
-ghost use Rattle.rules.specs.Promise.{SizesAre};
 ghost use Rattle.rules.specs.Shape.{group_size, groups};
 ghost use Rattle.rules.specs.Stripe.{symbol, stripe_length};
 ghost use Rattle.sums.specs.Kernel.{SumsAre};
 ghost use Rattle.sums.specs.Promise.{SumsMeet};
 
-use rules::{Shape, Sizes, measure, point, worth};
+use rules::{Refusal, Shape, Sizes, check_len, measure, point, worth};
 use weights::add_node;
-use yebarg::Outcome;
 
 // Adds the shares of all nodes, group by group, phantoms too. The columns of a node's group are lent on, as the part of the stripe that starts at the group's
 // first column; that of the last group may be short.
 #[tactic(auto, using(crate::proofs::Room::room))]
-pub fn add_all(sums: &mut [u8], stripe: &[u8], shape: Shape, z: Sizes)
-    requires sizes_are { SizesAre shape z }
-    requires stripe_len { length stripe.now ≡ stripe_length shape }
-    requires sums_are { SumsAre shape (symbol shape stripe.now) 0 sums.old }
-    ensures { SumsAre shape (symbol shape stripe.now) (groups shape * group_size shape) sums.new }
+pub fn add_all(sums: &mut [u8], stripe: &[u8], z: Sizes)
+    requires stripe_len { length stripe.now ≡ stripe_length z.shape }
+    requires sums_are { SumsAre z.shape (symbol z.shape stripe.now) 0 sums.old }
+    ensures { SumsAre z.shape (symbol z.shape stripe.now) (groups z.shape * group_size z.shape) sums.new }
 {
-    let Sizes { m, l, s, .. } = z;
-    let r = z.shape.r;
+    let Sizes { shape, m, l, s, .. } = z;
     // Group and place count from 0 here.
     for v in 0..m {
         let start = v * s * l;
@@ -30,26 +26,22 @@ pub fn add_all(sums: &mut [u8], stripe: &[u8], shape: Shape, z: Sizes)
         for u in 0..s {
             let p = point(shape, v * s + u + 1);
             // Not refused: the sizes are those of an accepted shape.
-            add_node(sums, group, s, w, l, u, p, r);
+            add_node(sums, group, s, w, l, u, p, shape.r);
         }
     }
 }
 
 // The sums of all equations of a stripe: r for every row, those of t = 0 first. A stripe is whole exactly when all are 0.
-pub fn sums_of(shape: Shape, stripe: &[u8], sums: &mut [u8]) -> Outcome
+#[tactic(auto, unfolding(crate::specs::Refusal::sums_refusal, rules::specs::Refusal::shape_refusal))]
+pub fn sums_of(shape: Shape, stripe: &[u8], sums: &mut [u8]) -> Result<(), Refusal>
     ensures { SumsMeet shape stripe.now sums.old result sums.new }
 {
     let Ok(z) = measure(shape) else {
-        return Outcome::Refused(1);
+        return Err(Refusal::BadShape);
     };
-    if stripe.len() != z.shape.n * z.l {
-        return Outcome::Refused(2);
-    }
-    let end = z.shape.r * z.l;
-    if sums.len() != end {
-        return Outcome::Refused(2);
-    }
+    check_len(stripe, z.stripe_len())?;
+    check_len(sums, z.shape.r * z.l)?;
     sums.fill(0);
-    add_all(sums, stripe, shape, z);
-    Outcome::Done
+    add_all(sums, stripe, z);
+    Ok(())
 }

@@ -8,14 +8,3 @@ pub struct Failure {
     // The lowest t that fails in it.
     pub t: usize,
 }
-
-// The answer of a test.
-#[derive(Clone, Copy, Debug, PartialEq, Eq)]
-pub enum Tested {
-    // The stripe is whole.
-    Whole,
-    // It isn't, and this is where it fails first.
-    Fails(Failure),
-    // The number of the refusal.
-    Refused(u8),
-}

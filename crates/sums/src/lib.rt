@@ -9,8 +9,8 @@ mod adding;
 mod answers;
 mod testing;
 
-// What a test answers.
-pub use answers::{Failure, Tested};
+// Where a stripe fails.
+pub use answers::Failure;
 
 // Is a stripe whole?
 pub use testing::test;
