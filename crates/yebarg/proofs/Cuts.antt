@@ -6,7 +6,6 @@ use mathlib.Core.Path.{◌≡◌, sym, ap, ap₂, ◌∙◌}
 use mathlib.Core.List.{List}
 use mathlib.Core.Option.{none}
 use Prim.Native.Nat.{ℕ, ◌+◌, ◌-◌, ◌*◌, ◌/◌, ◌%◌, ◌≤◌, ◌<◌}
-use native.Mathlib.Nat.{mod-lt}
 use native.Mathlib.Omega.{arith}
 use lib.ListN.{length, get_or}
 use lib.Seq.{ext_get_or}
@@ -30,7 +29,6 @@ pub record Cutting (sh : Shape) (f s w n l : ℕ) : Type 0 where
   pub part : n ≡ fraction_length sh
   -- what follows
   pub counts : 0 < w
-  pub inside : (f - 1) % s < s
   pub short : l ≤ 256
   pub whole : n * s ≡ l
   pub periods : n % w ≡ 0
@@ -57,7 +55,6 @@ cutting sh z {f} {w} {n} {l} same first last is part-is l-is =
       at = ap (λ s. (f - 1) % s) base;
       part = part;
       counts = omega (arith, counted, worth-some sh b (group sh f));
-      inside = mod-lt (f - 1) (omega (arith, z.of_shape.s-least));
       short = omega (arith, z.of_shape.l-most);
       whole = ap₂ (λ (x y : ℕ). x * y) part base ∙ fraction-times sh b ∙ sym (l-is ∙ z.of_shape.l-is ∙ ap rows same);
       periods = ap₂ (λ (x y : ℕ). x % y) part counted ∙ fraction-worth sh b f first last-is;

@@ -1,5 +1,5 @@
 -- `yebarg::cut` meets its contract: past all tests the bytes taken at the rows read are the fraction.
-use Rattle.std.proofs.Common.{◌≡◌, length, rules, refl, sym, ◌∙◌}
+use Rattle.std.proofs.Common.{arith, ◌≡◌, length, rules, refl, sym, ◌∙◌}
 use mathlib.Core.Option.{none}
 use Rattle.rules.specs.Refusal.{shape_refusal}
 use Rattle.yebarg.specs.Refusal.{cut_refusal}
@@ -17,7 +17,7 @@ way c =
 pub take_rows-requires : goal.take_rows-requires
 take_rows-requires c =
     let h = way (goal.at.take_rows-requires c).After-worth in
-    record { w_nonzero = (h.counts, h.inside); column_len_bound = (h.short, h.whole); w_len = h.periods }
+    record { w_nonzero = (h.counts, omega (arith, c.in-Ok.z.of_shape.s-least)); column_len_bound = (h.short, h.whole); w_len = h.periods }
 
 pub returns : goal.returns
 unfolding cut_refusal shape_refusal
