@@ -6,13 +6,14 @@
 --   Shared r p l weights before later == to the r sums of every row is added the point p to the power t times the weight at that row; those of t = 0 stand
 --                       first
 --   Shareable r weights sums == what `add_shares` is given fits together: at most 4 sums for each of at most 256 weights, and as many sums as that is
---   SharesAre   == `add_shares`: true exactly where it fits together, and then the weights are shared out; else nothing is written
+--   SharesAre   == `add_shares`: Ok exactly where it fits together, and then the weights are shared out; else nothing is written
 --   Addable s w l u r sums == what `add_node` is given fits together: w is 1 to 256, u a place of a group of at most 4, and at most 4 sums for each of at most
 --                       256 rows, as many sums as that is
---   NodeAdded   == `add_node`: true exactly where it fits together, and then the node's weights are shared out; else nothing is written
-use Rattle.std.specs.Prelude.{◌≡◌, Bool, true, false, List, length, get_or}
+--   NodeAdded   == `add_node`: Ok exactly where it fits together, and then the node's weights are shared out; else nothing is written
+use Rattle.std.specs.Prelude.{◌≡◌, List, length, get_or, Result, OnOk, OnErr}
 use Prim.Native.Nat.{ℕ, ◌+◌, ◌-◌, ◌*◌, ◌/◌, ◌%◌, ◌<◌, ◌≤◌, compare}
 use Rattle.field.specs.Number.{add, mul, power}
+use Rattle.rules.specs.declared.refusals.Misfit.{Misfit}
 use Rattle.rules.specs.Equation.{weighed}
 
 unfoldable pub weight_at : ℕ → ℕ → ℕ → List ℕ → ℕ → ℕ → ℕ
@@ -28,11 +29,11 @@ pub record Shareable (r : ℕ) (weights sums : List ℕ) : Type 0 where
   pub short : length weights ≤ 256
   pub exact : length sums ≡ r * length weights
 
-pub record SharesAre (r p : ℕ) (weights before : List ℕ) (answer : Bool) (later : List ℕ) : Type 0 where
-  pub can : answer ≡ true → Shareable r weights before
-  pub shared : answer ≡ true → Shared r p (length weights) (λ a. get_or weights a 0) before later
-  pub cannot : answer ≡ false → Shareable r weights before → ⊥
-  pub kept : answer ≡ false → later ≡ before
+pub record SharesAre (r p : ℕ) (weights before : List ℕ) (answer : Result (Unit {0}) Misfit) (later : List ℕ) : Type 0 where
+  pub can : OnOk answer (Shareable r weights before)
+  pub shared : OnOk answer (Shared r p (length weights) (λ a. get_or weights a 0) before later)
+  pub cannot : OnErr answer (Shareable r weights before → ⊥)
+  pub kept : OnErr answer (later ≡ before)
 
 pub record Addable (s w l u r : ℕ) (sums : List ℕ) : Type 0 where
   pub counts : 0 < w
@@ -43,8 +44,8 @@ pub record Addable (s w l u r : ℕ) (sums : List ℕ) : Type 0 where
   pub short : l ≤ 256
   pub exact : length sums ≡ r * l
 
-pub record NodeAdded (s w l u r p : ℕ) (group before : List ℕ) (answer : Bool) (later : List ℕ) : Type 0 where
-  pub can : answer ≡ true → Addable s w l u r before
-  pub shared : answer ≡ true → Shared r p l (weight_at s w l group u) before later
-  pub cannot : answer ≡ false → Addable s w l u r before → ⊥
-  pub kept : answer ≡ false → later ≡ before
+pub record NodeAdded (s w l u r p : ℕ) (group before : List ℕ) (answer : Result (Unit {0}) Misfit) (later : List ℕ) : Type 0 where
+  pub can : OnOk answer (Addable s w l u r before)
+  pub shared : OnOk answer (Shared r p l (weight_at s w l group u) before later)
+  pub cannot : OnErr answer (Addable s w l u r before → ⊥)
+  pub kept : OnErr answer (later ≡ before)

@@ -32,19 +32,19 @@ loop-a-preserved c =
     was.digit c.byte_at-own.ensures.value c.byte_at-other.ensures.value c.coupled.ensures in
     let done = done_more _ c.loop-a.weights c.loop-a.a c.coupled.result inside byte c.loop-a.invariant.done in
     elim c.if-j-w.branch [
-      then-j-w w ↦ record {
+      | then-j-w w ↦ record {
         done = done;
         carried = carried_as w.d-is w.j-is (carried-within was (omega arith) (omega arith));
         digit_small = omega arith;
         past-small = omega arith;
       }
-    | else-j-w+then-d-s w ↦ record {
+      | else-j-w+then-d-s w ↦ record {
         done = done;
         carried = carried_as w.d-is w.j-is (carried-over was (omega arith) (omega arith) (omega arith));
         digit_small = omega arith;
         past-small = omega arith;
       }
-    | else-j-w+else-d-s w ↦ record {
+      | else-j-w+else-d-s w ↦ record {
         done = done;
         carried = carried_as w.d-is w.j-is (carried-around was (omega arith) (omega arith));
         digit_small = omega arith;
