@@ -1,6 +1,6 @@
 -- Lengths and groups of an accepted shape, in the sizes that `measure` gives. In order: the length of a stripe, of its data columns, of a fraction, of the
 -- sums of the rows read, of the columns of all nodes; how long they are at most; the group of a node ends among the nodes; what the group's digit counts is small.
-use mathlib.Core.Path.{◌≡◌, ap, ap₂}
+use mathlib.Core.Path.{◌≡◌, ap₂}
 use Prim.Native.Nat.{ℕ, suc, ◌+◌, ◌*◌, ◌/◌, ◌<◌, ◌≤◌}
 use native.Mathlib.Nat.{div-le_self, div-lt_iff_lt-mul, mul-le-mul, mul-le-mul_right}
 use native.Mathlib.Omega.{arith}

@@ -1,7 +1,7 @@
 -- What `measure` finds out of a shape within the limits: all that the type of the sizes keeps. In order: the groups counted up by the kit's `div_ceil`; powers
 -- that fit; the sizes.
 use mathlib.Core.Path.{◌≡◌, refl, ◌∙◌, sym, ap, subst}
-use Prim.Native.Nat.{ℕ, zero, suc, ◌+◌, ◌-◌, ◌*◌, ◌/◌, ◌^◌, ◌≤◌, ◌<◌}
+use Prim.Native.Nat.{ℕ, zero, suc, ◌+◌, ◌-◌, ◌/◌, ◌^◌, ◌≤◌}
 use native.Mathlib.Nat.{one-le-pow, pow-le-pow_left, pow-le-pow_right}
 use native.Mathlib.Omega.{arith}
 use Rattle.std.specs.Int.{div_ceil}

@@ -1,7 +1,7 @@
 -- What the type `Sizes` keeps: document 01, "Shape". It names no value of that type, which is declared over it.
 --   AreSizes sh k m l s == the shape is accepted, and k, m, l, s are its sizes; what follows of them for every accepted shape stands beside it, so that no
 --                          function works it out again
-use Rattle.std.specs.Prelude.{◌≡◌, ℕ, ◌+◌, ◌*◌, ◌^◌, ◌≤◌, ◌<◌}
+use Rattle.std.specs.Prelude.{◌≡◌, ℕ, ◌+◌, ◌*◌, ◌^◌, ◌≤◌}
 use Rattle.std.proofs.Math.Option.{none}
 use Rattle.rules.specs.declared.shapes.Shape.{Shape}
 use Rattle.rules.specs.Shape.{group_size, data_nodes, groups, rows}

@@ -5,7 +5,7 @@ use mathlib.Core.Option.{none, some}
 use Prim.Native.Nat.{ℕ, ◌≤◌, ◌<◌, ◌-◌, ◌^◌}
 use native.Mathlib.Omega.{arith}
 use Rattle.rules.specs.declared.shapes.Shape.{Shape}
-use Rattle.rules.specs.Shape.{group_size, groups, worth}
+use Rattle.rules.specs.Shape.{groups, worth}
 use Rattle.rules.specs.Refusal.{shape_refusal}
 use Rattle.rules.specs.Promise.{WorthIs}
 use Rattle.rules.proofs.Measures.{measured-sizes, refused_not_accepted}
