@@ -1,24 +1,20 @@
 -- A column from its sums. In order: sizes; the positions of rows; the points of the group; unknowns that are found, put at their rows, are the column; there is
 -- one such column.
 use mathlib.Core.Path.{◌≡◌, refl, sym, ap, ap₂, ◌∙◌, subst}
-use mathlib.Core.Bool.{Bool, true}
-use mathlib.Core.List.{List, [], ◌∷◌, ◌++◌}
+use mathlib.Core.List.{List, [], ◌∷◌}
 use Prim.Native.Nat.{ℕ, suc, ◌+◌, ◌-◌, ◌*◌, ◌/◌, ◌%◌, ◌<◌, ◌≤◌}
 use native.Mathlib.Nat.{div-add-mod', div-div-eq-div-mul, div-lt_iff_lt-mul, mod-lt, one-le-mul, pow-suc, pow-le-pow_right}
 use native.Mathlib.Omega.{arith}
 use lib.Arith.{digits_lt, digits_div, digits_mod}
-use lib.ListN.{length, get_or, take}
-use lib.Seq.{ext_get_or, take_at}
+use lib.ListN.{length, get_or}
+use lib.Seq.{ext_get_or}
 use Rattle.field.specs.Number.{mul, power}
 use Rattle.rules.specs.declared.shapes.Shape.{Shape}
 use Rattle.rules.specs.Shape.{group_size, groups, rows, node, group, place, worth, with_digit}
-use Rattle.rules.specs.declared.shapes.Sizes.{Sizes}
 use Rattle.rules.specs.Point.{point_of}
-use Rattle.rules.specs.Promise.{SizesAre}
 use Rattle.rules.specs.Stripe.{IsBytes}
 use Rattle.rules.specs.Fraction.{rows_read, fraction_length}
 use Rattle.rules.proofs.Accepted.{Bounds, size-some, nodes-least, nodes-most}
-use Rattle.rules.proofs.Measures.{sizes_of, sizes_are}
 use Rattle.rules.proofs.House.{point-below, points-distinct}
 use Rattle.rules.proofs.RowsRead.{worth-some, place_lt, group_from_1, fraction-worth, fraction-times, row_lt}
 use Rattle.rules.proofs.Ties.{sum_same}
@@ -31,9 +27,9 @@ use Rattle.distinct.specs.Promise.{Apart}
 use Rattle.distinct.proofs.Indices.{four}
 use Rattle.systems.proofs.Settled.{moments_only}
 use Rattle.systems.specs.System.{moment}
+use Rattle.std.specs.Prelude.{Ok}
 use Rattle.solver.specs.Promise.{Solvable, UnknownsAre}
 use Rattle.solver.specs.Solve.{Solved, columns_at}
-use Rattle.solver.proofs.Settled.{unknowns-true, unknowns-length}
 use Rattle.recover.specs.Promise.{spread, RowsSolved}
 use Rattle.recover.specs.Kernel.{PointsAre, position_of, Put}
 
@@ -140,64 +136,49 @@ module _ (sh : Shape) (b : Bounds sh) (f : ℕ) (first : 1 ≤ f) (last : f ≤ 
           ∙ sum_same (group_size sh) _ _ (λ u hu. ap (mul (power (get_or points u 0) t)) (found_at u j hu hj))
           ∙ solved j t hj ht
 
-  -- the same in the numbers of the code: what is found stands at the front of an array
-  abbrev Solving : Sizes → Type 0
-  Solving z = (points sums zeros found rest before later : List ℕ) (answer : Bool) (w : ℕ)
-      → PointsAre sh ((f - 1) / z.s * z.s) points
-      → length sums ≡ sh.r * fraction_length sh
-      → length zeros ≡ z.s * (z.l / z.s)
-      → UnknownsAre z.s points (z.l / z.s) sums zeros answer found
-      → w ≡ worth sh (group sh f)
-      → length before ≡ rows sh
-      → Put z.s w (z.l / z.s) (take (z.s * (z.l / z.s)) (found ++ rest)) before later
+  -- the points differ, so that there is one solution
+  can_solve : (points sums before : List ℕ) → PointsAre sh nodes_before points → length sums ≡ group_size sh * fraction_length sh
+      → length before ≡ group_size sh * fraction_length sh
+      → Solvable (group_size sh) points (fraction_length sh) sums before
+  can_solve points sums before are sums-long room = record {
+    few = size-most sh b;
+    short = fraction-most sh b;
+    sums-exact = sums-long;
+    found-exact = room;
+    apart = points-apart points are;
+  }
+
+  rows-solved : (points sums before found old later : List ℕ) → PointsAre sh nodes_before points
+      → UnknownsAre (group_size sh) points (fraction_length sh) sums before (Ok tt) found
+      → Put (group_size sh) (worth sh (group sh f)) (fraction_length sh) found old later
+      → length old ≡ rows sh
       → RowsSolved sh f sums later
+  unfolding group_size
+  rows-solved points sums before found old later are unknowns put long = record {
+    bytes = record {
+      exact = put.same_length ∙ long;
+      bytes = λ a h.
+          subst (λ x. x < 256) (sym (put.bytes a (omega (arith, h, long))))
+          (unknowns.bytes.bytes _
+          (entry-within (mod-lt (a / worth sh (group sh f)) (size-some sh b))
+          (position_lt (group_size sh) (worth sh (group sh f)) (fraction_length sh) a (size-some sh b) (worth-some sh b (group sh f))
+          (fraction-worth sh b f first last) (omega (arith, h, fraction-times sh b)))));
+    };
+    solved = λ t j ht hj. put-spread points are sums found old later unknowns.solved put long t j ht hj;
+  }
 
-  module _ (points sums zeros found : List ℕ) (answer : Bool) (are : PointsAre sh nodes_before points)
-      (sums-long : length sums ≡ group_size sh * fraction_length sh) (zeros-long : length zeros ≡ group_size sh * fraction_length sh)
-      (unknowns : UnknownsAre (group_size sh) points (fraction_length sh) sums zeros answer found) where
-    -- the points differ, so that there is one solution
-    solvable : Solvable (group_size sh) points (fraction_length sh) sums zeros
-    solvable = record {
-      few = size-most sh b;
-      short = fraction-most sh b;
-      sums-exact = sums-long;
-      found-exact = zeros-long;
-      apart = points-apart points are;
-    }
+  -- the same in the numbers of the code
+  module _ (s size : ℕ) (s-is : s ≡ group_size sh) (size-is : size ≡ fraction_length sh) where
+    pub solvable : (points sums before : List ℕ) → PointsAre sh ((f - 1) / s * s) points → length sums ≡ s * size → length before ≡ s * size
+        → Solvable s points size sums before
+    solvable = rw (s-is, size-is) can_solve
 
-    answer_yes : answer ≡ true
-    answer_yes = unknowns-true answer unknowns solvable
-
-    found-bytes : IsBytes (group_size sh * fraction_length sh) found
-    found-bytes = unknowns.bytes answer_yes
-
-    pub rows-solved : (before later : List ℕ) → Put (group_size sh) (worth sh (group sh f)) (fraction_length sh) found before later → length before ≡ rows sh
+    pub solving : (w : ℕ) → w ≡ worth sh (group sh f) → (points sums before found old later : List ℕ) → PointsAre sh ((f - 1) / s * s) points
+        → UnknownsAre s points size sums before (Ok tt) found
+        → Put s w size found old later
+        → length old ≡ rows sh
         → RowsSolved sh f sums later
-    unfolding group_size
-    rows-solved before later put long = record {
-      bytes = record {
-        exact = put.same_length ∙ long;
-        bytes = λ a h.
-            subst (λ x. x < 256) (sym (put.bytes a (omega (arith, h, long))))
-            (found-bytes.bytes _
-            (entry-within (mod-lt (a / worth sh (group sh f)) (size-some sh b))
-            (position_lt (group_size sh) (worth sh (group sh f)) (fraction_length sh) a (size-some sh b) (worth-some sh b (group sh f))
-            (fraction-worth sh b f first last) (omega (arith, h, fraction-times sh b)))));
-      };
-      solved = λ t j ht hj. put-spread points are sums found before later (unknowns.solved answer_yes) put long t j ht hj;
-    }
-
-  solving-at : Solving (sizes_of sh b)
-  unfolding fraction_length group_size
-  solving-at points sums zeros found rest before later answer w are sums-long zeros-long unknowns is-worth long put =
-      rows-solved points sums zeros found answer are sums-long zeros-long unknowns before later
-      (subst (λ x. Put (group_size sh) x (fraction_length sh) found before later) is-worth
-      (subst (λ xs. Put (group_size sh) w (fraction_length sh) xs before later)
-      (take_at found rest (group_size sh * fraction_length sh) (unknowns-length answer unknowns zeros-long)) put))
-      long
-
-  pub solving : (z : Sizes) → SizesAre sh z → Solving z
-  solving z h = subst Solving (sym (sizes_are sh z h b)) solving-at
+    solving w w-is = rw (s-is, size-is, w-is) rows-solved
 
 -- a row is the one with its digit at its position
 row_back : (s w a : ℕ) → 0 < s → 0 < w → row_at s w (a / w % s) (position_of s w a) ≡ a

@@ -4,10 +4,11 @@
 --                               (`equation-column` of crates/rebuild/proofs/Finding.antt: the equation is that of the others and this)
 --   RowsSolved sh f sums later == later is l bytes, and what it brings to the equations of the rows read are the sums
 --   Recoverable sh f sums column == the shape is accepted, f is one of its nodes, and the lengths are exact
---   SolveRowsIs == `solve_rows`: true exactly so, and then every later byte is settled by the sums; else nothing is written
-use Rattle.std.specs.Prelude.{◌≡◌, Bool, true, false, List, ℕ, ◌+◌, ◌*◌, ◌<◌, ◌≤◌, length, get_or}
+--   SolveRowsIs == `solve_rows`: done exactly so, and then every later byte is settled by the sums; else a misfit, and nothing is written
+use Rattle.std.specs.Prelude.{◌≡◌, List, ℕ, ◌+◌, ◌*◌, ◌<◌, ◌≤◌, length, get_or, Result, OnOk, OnErr}
 use Rattle.std.proofs.Math.Option.{none}
 use Rattle.field.specs.Number.{mul, power}
+use Rattle.rules.specs.declared.refusals.Misfit.{Misfit}
 use Rattle.rules.specs.declared.shapes.Shape.{Shape}
 use Rattle.rules.specs.Shape.{group_size, rows, node, group, with_digit}
 use Rattle.rules.specs.Point.{point_of}
@@ -32,8 +33,8 @@ pub record Recoverable (sh : Shape) (f : ℕ) (sums column : List ℕ) : Type 0 
   pub first : 1 ≤ f
   pub last : f ≤ sh.n
 
-pub record SolveRowsIs (sh : Shape) (f : ℕ) (sums before : List ℕ) (answer : Bool) (later : List ℕ) : Type 0 where
-  pub can : answer ≡ true → Recoverable sh f sums before
-  pub solved : answer ≡ true → RowsSolved sh f sums later
-  pub cannot : answer ≡ false → Recoverable sh f sums before → ⊥
-  pub kept : answer ≡ false → later ≡ before
+pub record SolveRowsIs (sh : Shape) (f : ℕ) (sums before : List ℕ) (answer : Result (Unit {0}) Misfit) (later : List ℕ) : Type 0 where
+  pub can : OnOk answer (Recoverable sh f sums before)
+  pub solved : OnOk answer (RowsSolved sh f sums later)
+  pub cannot : OnErr answer (Recoverable sh f sums before → ⊥)
+  pub kept : OnErr answer (later ≡ before)

@@ -4,7 +4,7 @@ ghost use Rattle.std.specs.Prelude.{◌≡◌, ◌≤◌, ◌<◌, ◌*◌, ◌%
 ghost use Rattle.recover.specs.Kernel.{PointsAre, Put};
 ghost use Rattle.recover.specs.Promise.{SolveRowsIs};
 
-use rules::{Shape, measure, point, worth};
+use rules::{Misfit, Shape, measure, point, worth};
 use solver::unknowns;
 
 // The points of the four nodes after the first `first`; 0 past node 16.
@@ -42,33 +42,27 @@ fn put_rows(found: &[u8], s: usize, w: usize, size: usize, column: &mut [u8])
 }
 
 // Solves every row read, and writes the column. `sums` is what the column is to bring to the equations of the rows read, r × l / s bytes, those of t = 0 first,
-// the rows in rising order. False, and nothing written, where the shape isn't accepted, a length isn't exact, or there is no such node.
-pub fn solve_rows(sums: &[u8], shape: Shape, failed: usize, column: &mut [u8]) -> bool
+// the rows in rising order. A misfit, and nothing written, where the shape isn't accepted, a length isn't exact, or there is no such node.
+pub fn solve_rows(sums: &[u8], shape: Shape, failed: usize, column: &mut [u8]) -> Result<(), Misfit>
     ensures { SolveRowsIs shape failed sums.now column.old result column.new }
 {
     let Ok(z) = measure(shape) else {
-        return false;
+        return Err(Misfit);
     };
     let s = z.s;
-    let size = z.l / s;
+    let size = z.fraction_len();
     let end = s * size;
-    if sums.len() != end {
-        return false;
+    if sums.len() != end || column.len() != end {
+        return Err(Misfit);
     }
-    if column.len() != end {
-        return false;
-    }
-    if failed < 1 {
-        return false;
-    }
-    if z.shape.n < failed {
-        return false;
+    if failed < 1 || z.shape.n < failed {
+        return Err(Misfit);
     }
     let v = (failed - 1) / s;
     let points = points_after(shape, v * s);
-    let mut found = [0u8; 256];
-    // It can be solved: the group's points differ.
-    unknowns(s, points, size, sums, &mut found[..end]);
-    put_rows(&found[..end], s, worth(shape, v + 1), size, column);
-    true
+    let mut room = [0; 256];
+    let found = &mut room[..end];
+    unknowns(s, points, size, sums, found).unwrap();
+    put_rows(found, s, worth(shape, v + 1), size, column);
+    Ok(())
 }
