@@ -1,4 +1,4 @@
-// The weights of a group's nodes. Functions that have a `requires` can't be named from outside the crate. specs/Kernel.antt says every byte that `weigh` writes.
+// The weights of a group's nodes. `weigh` has a `requires`, and can't be named from outside the crate. specs/Kernel.antt says every byte that it writes.
 ghost use Rattle.std.specs.Prelude.{◌≡◌, ◌≤◌, ◌<◌, length};
 ghost use Prim.Native.Nat.{compare};
 ghost use Rattle.rules.specs.Equation.{weighed};

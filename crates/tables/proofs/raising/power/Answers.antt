@@ -3,9 +3,6 @@ use mathlib.Core.Path.{sym, ap, ◌∙◌}
 use Rattle.field.specs.Number.{power}
 use Rattle.field.proofs.Powers.{power_zero, zero-power}
 use Rattle.tables.proofs.Exponents.{power_by_log}
-use native.Mathlib.Omega.{arith}
-use Prim.Native.Nat.{◌%◌}
-use native.Mathlib.Nat.{mul-le-mul}
 use borrow.Author.Rules.{rules}
 use Rattle.tables.proofs.raising.power.Goals as goal
 
@@ -16,12 +13,6 @@ pub returns-then-a-eq0 : goal.returns-then-a-eq0
 returns-then-a-eq0 c =
     let t = c.args.t in
     record { value = sym (ap (λ x. power x t) c.if-a-eq0.true ∙ zero-power t (search rules)) }
-
-pub overflow_mul-logarithm : goal.overflow_mul-logarithm
-overflow_mul-logarithm c =
-    let l = c.logarithm.result in
-    let t = c.args.t % 255 in
-    record { fits = omega (arith, mul-le-mul {n₁ = l} {m₁ = t} {n₂ = 255} {m₂ = 254} (omega arith) (omega arith)) }
 
 pub returns : goal.returns
 returns c =
