@@ -1,18 +1,21 @@
--- The chosen nodes as a set. In order: where no more are chosen in all than below n, none is chosen from n on; as a set of document 01's nodes.
+-- The chosen nodes as a set. In order: where no more are chosen in all than below n, none is chosen from n on; the list of them;
+-- as a set of document 01's nodes.
 use mathlib.Core.Path.{◌≡◌, refl, sym, ap, ◌∙◌}
 use mathlib.Core.Bool.{Bool, true, false}
 use mathlib.Core.List.{List}
 use Prim.Native.Nat.{ℕ, suc, ◌-◌, ◌≤◌, ◌<◌}
 use native.Mathlib.Decide.{dec_le}
 use native.Mathlib.Omega.{arith}
-use lib.ListN.{length}
-use Rattle.theory.specs.Set.{count}
+use lib.ListN.{length, get_or}
+use Rattle.theory.specs.Set.{count, Lists}
 use Rattle.theory.proofs.Counts.{count-suc, count_up}
 use Rattle.rules.specs.declared.shapes.Shape.{Shape}
 use Rattle.rules.proofs.LostSets.{real, real_in, real-out}
 use Rattle.corrections.specs.Correction.{chosen}
 use Rattle.choices.proofs.Counting.{beyond}
+use Rattle.choices.specs.Promise.{ListedAre}
 use Rattle.levels.specs.Promise.{NoneFrom}
+use Rattle.levels.specs.Kernel.{InOrder}
 
 module _ (n : ℕ) (flags : List Bool) (all : length flags ≡ 16) where
   pub none_from : count 16 (chosen flags) ≤ count n (chosen flags) → NoneFrom n flags
@@ -26,6 +29,34 @@ module _ (n : ℕ) (flags : List Bool) (all : length flags ≡ 16) where
       go : Dec (16 ≤ i) → chosen flags i ≡ false
       go (yes k) = beyond flags i (omega (arith, all, k))
       go (no k) = at (chosen flags i) refl (omega (arith, k))
+
+-- a member of a set is told by how many come before it
+not_before : (L : ℕ → Bool) (a b : ℕ) → L a ≡ true → count a L ≡ count b L → a < b → ⊥
+not_before L a b into same h = omega (arith, same, count_up (suc a) b L h, simp into at (count-suc a L))
+
+same-member : (L : ℕ → Bool) (a b : ℕ) → L a ≡ true → L b ≡ true → count a L ≡ count b L → a ≡ b
+same-member L a b ia ib same = omega (arith, not_before L a b ia same, not_before L b a ib (sym same))
+
+module _ {n : ℕ} {flags : List Bool} {nodes : List ℕ} where
+  pub in_order : ListedAre n flags nodes → InOrder n flags nodes
+  in_order are = record { below = are.lists.below; inside = are.lists.inside; rises = are.rises }
+
+  module _ (ordered : InOrder n flags nodes) where
+    pub ordered-once : (i j : ℕ) → i < count n (chosen flags) → j < count n (chosen flags) → get_or nodes i 0 ≡ get_or nodes j 0 → i ≡ j
+    ordered-once i j hi hj e = sym (ordered.rises i hi) ∙ ap (λ k. count k (chosen flags)) e ∙ ordered.rises j hj
+
+    pub ordered-lists : Lists n (chosen flags) (count n (chosen flags)) (λ j. get_or nodes j 0)
+    ordered-lists = record {
+      below = ordered.below;
+      inside = ordered.inside;
+      once = ordered-once;
+      all = λ i h into.
+          let before : count i (chosen flags) < count n (chosen flags) = omega (arith, count_up (suc i) n (chosen flags) h, simp into at (count-suc i (chosen flags))) in (
+            count i (chosen flags),
+            before,
+            same-member (chosen flags) _ i (ordered.inside _ before) into (ordered.rises _ before),
+          );
+    }
 
 pub real-chosen : (sh : Shape) (flags : List Bool) → NoneFrom sh.n flags → (i : ℕ) → real sh (λ j. chosen flags (j - 1)) i ≡ chosen flags i
 real-chosen sh flags none i = go (dec_le (suc i) sh.n)

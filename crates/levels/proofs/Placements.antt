@@ -1,32 +1,25 @@
--- Columns of `found` put where the nodes listed have theirs. In order: none yet; one more; each node listed has its column among
--- the bytes.
+-- Columns of `found` put where the nodes listed have theirs. In order: none yet; one more.
 -- Assumes nothing.
 use mathlib.Core.Path.{◌≡◌, refl, sym, ap, ◌∙◌}
 use mathlib.Core.List.{List}
-use mathlib.Core.Bool.{Bool}
 use mathlib.Core.Logic.{◌⊎◌, inl, inr}
 use Prim.Native.Nat.{ℕ, ◌+◌, ◌-◌, ◌*◌, ◌<◌, ◌≤◌}
-use native.Mathlib.Nat.{eq-or-lt_of_le, le_trans}
+use native.Mathlib.Nat.{eq-or-lt_of_le}
 use native.Mathlib.Omega.{arith}
 use lib.ListN.{length, get_or, take, drop}
 use borrow.Rule.Slice.PartMut.{put_mid}
 use Rattle.columns.proofs.Parts.{part_length, part-byte, column-put, column-put-other, column-put-length}
-use Rattle.theory.specs.Set.{count}
-use Rattle.columns.proofs.Kernels.{column-within}
-use Rattle.corrections.specs.Correction.{chosen}
-use Rattle.choices.specs.Promise.{ListedAre}
-use Rattle.choices.proofs.Listing.{listed_small}
-use Rattle.levels.specs.Kernel.{Fitting, Once, Placed}
+use Rattle.levels.specs.Kernel.{Placed}
 
 pub placed_start : (nodes : List ℕ) (l : ℕ) (found before : List ℕ) → Placed nodes 0 l found before before
 placed_start nodes l found before =
     record { same_length = refl; each = λ j a h k. absurd (omega (arith, h)); others = λ i a away h. refl }
 
 module _ (nodes : List ℕ) (l j : ℕ) (found before xs : List ℕ) (was : Placed nodes j l found before xs) where
-  pub placed-step : {count : ℕ} → Once nodes count → j < count → j * l + l ≤ length found → get_or nodes j 0 * l + l ≤ length xs → (ys : List ℕ)
+  pub placed-step : ((k : ℕ) → k < j → get_or nodes k 0 ≡ get_or nodes j 0 → ⊥) → j * l + l ≤ length found → get_or nodes j 0 * l + l ≤ length xs → (ys : List ℕ)
       → ys ≡ take (j * l + l - j * l) (drop (j * l) found)
       → Placed nodes (j + 1) l found before (put_mid (get_or nodes j 0 * l) (get_or nodes j 0 * l + l - get_or nodes j 0 * l) xs ys)
-  placed-step once listed inside fits ys is = record {
+  placed-step once inside fits ys is = record {
     same_length = column-put-length l (get_or nodes j 0) xs fits ys same ∙ was.same_length;
     each = λ k a hk ha. go k a ha (eq-or-lt_of_le (omega (arith, hk)));
     others = λ i a away ha.
@@ -46,10 +39,5 @@ module _ (nodes : List ℕ) (l j : ℕ) (found before xs : List ℕ) (was : Plac
           ∙ part-byte (j * l) l found inside a ha)
       go k a ha (inr h) =
           column-put-other l (get_or nodes j 0) xs fits ys same (get_or nodes k 0) a
-          (λ e. omega (arith, h, once k j (omega (arith, h, listed)) listed e)) ha
+          (once k h) ha
           ∙ was.each k a h ha
-
--- each has its column among as many bytes as n columns have
-pub listed-fitting : {n : ℕ} {flags : List Bool} {nodes : List ℕ} → ListedAre n flags nodes → n ≤ 16 → (l size : ℕ) → n * l ≤ size
-    → Fitting nodes (count n (chosen flags)) l size
-listed-fitting are h l size room j m = (listed_small are h j, le_trans (column-within l (are.lists.below j m)) room)

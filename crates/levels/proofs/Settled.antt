@@ -15,6 +15,8 @@ use Rattle.theory.specs.Code.{nodes}
 use Rattle.theory.specs.Whole.{Fills}
 use Rattle.theory.proofs.Counts.{count-beyond}
 use Rattle.theory.proofs.Filling.{fills-only}
+use Rattle.std.specs.Prelude.{Result, Ok, Err}
+use Rattle.rules.specs.declared.refusals.Misfit.{Misfit}
 use Rattle.rules.specs.declared.shapes.Shape.{Shape}
 use Rattle.rules.specs.Shape.{group_size, groups, rows}
 use Rattle.rules.specs.Stripe.{IsBytes, stripe_length, symbol, column_start, column}
@@ -29,13 +31,12 @@ use Rattle.rules.proofs.Benches.{parity-c, bench-shape}
 use Rattle.corrections.specs.Correction.{chosen}
 use Rattle.levels.specs.Promise.{NoneFrom, LevelsCorrected, Fillable, LevelsAre}
 use Rattle.levels.proofs.Nodes.{real-chosen}
-use Rattle.levels.proofs.Refusing.{can-fill}
 
 module _ (sh : Shape) (flags : List Bool) (before : List ℕ) where
   -- what can be filled is filled
-  pub levels-true : (answer : Bool) (later : List ℕ) → LevelsAre sh flags before answer later → Fillable sh flags before → answer ≡ true
-  levels-true true later p way = refl
-  levels-true false later p way = absurd (p.cannot refl way)
+  pub levels-ok : (answer : Result (Unit {0}) Misfit) (later : List ℕ) → LevelsAre sh flags before answer later → Fillable sh flags before → answer ≡ Ok tt
+  levels-ok (Ok _) later p way = refl
+  levels-ok (Err _) later p way = absurd (p.cannot way)
 
   levels-only : Fillable sh flags before → (x y : List ℕ) → IsBytes (stripe_length sh) x → IsBytes (stripe_length sh) y
       → LevelsCorrected sh flags (count sh.n (chosen flags)) before x
@@ -47,23 +48,28 @@ module _ (sh : Shape) (flags : List Bool) (before : List ℕ) where
       (fills-only (code sh) (house_lawful sh b) (count sh.n (chosen flags)) (chosen flags) (stripe sh (symbol sh before)) (stripe sh (symbol sh x))
       (stripe sh (symbol sh y)) (omega (arith, count-beyond sh.n (nodes (code sh)) (chosen flags) way.none_above (nodes-least sh b))) p.fills q.fills)
 
-  pub levels_settled : (a b : Bool) (x y : List ℕ) → LevelsAre sh flags before a x → LevelsAre sh flags before b y → (a ≡ b) × (x ≡ y)
-  levels_settled true true x y p q = (refl, levels-only (p.can refl) x y (p.bytes refl) (q.bytes refl) (p.filled refl) (q.filled refl))
-  levels_settled true false x y p q = absurd (q.cannot refl (p.can refl))
-  levels_settled false true x y p q = absurd (p.cannot refl (q.can refl))
-  levels_settled false false x y p q = (refl, p.kept refl ∙ sym (q.kept refl))
+  pub levels_settled : (a b : Result (Unit {0}) Misfit) (x y : List ℕ) → LevelsAre sh flags before a x → LevelsAre sh flags before b y → (a ≡ b) × (x ≡ y)
+  levels_settled (Ok _) (Ok _) x y p q = (refl, levels-only p.can x y p.bytes q.bytes p.filled q.filled)
+  levels_settled (Ok _) (Err _) x y p q = absurd (q.cannot p.can)
+  levels_settled (Err _) (Ok _) x y p q = absurd (p.cannot q.can)
+  levels_settled (Err _) (Err _) x y p q = (refl, p.kept ∙ sym q.kept)
 
   -- with r nodes chosen, what fills by all equations is the one result
   filled_allowed : Fillable sh flags before → count sh.n (chosen flags) ≡ sh.r → (later : List ℕ) → Filled sh (λ i. chosen flags (i - 1)) before later
-      → LevelsAre sh flags before true later
-  filled_allowed way exact later f =
-      can-fill sh flags before later way f.bytes (record {
-        same_length = f.bytes.exact ∙ sym way.exact;
-        fills = subst (λ k. Fills (code sh) k (chosen flags) (stripe sh (symbol sh before)) (stripe sh (symbol sh later))) (sym exact) (record {
-          whole = fills.whole;
-          kept = λ i a il al out. fills.kept i a il al (real-chosen sh flags way.none_above i ∙ out);
-        });
-      })
+      → LevelsAre sh flags before (Ok tt) later
+  filled_allowed way exact later f = record {
+    can = way;
+    bytes = f.bytes;
+    filled = record {
+      same_length = f.bytes.exact ∙ sym way.exact;
+      fills = subst (λ k. Fills (code sh) k (chosen flags) (stripe sh (symbol sh before)) (stripe sh (symbol sh later))) (sym exact) (record {
+        whole = fills.whole;
+        kept = λ i a il al out. fills.kept i a il al (real-chosen sh flags way.none_above i ∙ out);
+      });
+    };
+    cannot = tt;
+    kept = tt;
+  }
     where
       fills : Fills (code sh) sh.r (real sh (λ i. chosen flags (i - 1))) (stripe sh (symbol sh before)) (stripe sh (symbol sh later))
       fills = filled→fills sh (bounds sh way.taken) (λ i. chosen flags (i - 1)) before later f
@@ -77,7 +83,7 @@ three = true ∷ true ∷ true ∷ replicate 13 false
 abbrev given_c : List ℕ
 given_c = 7 ∷ 7 ∷ 7 ∷ 7 ∷ 7 ∷ 7 ∷ 7 ∷ 7 ∷ 2 ∷ 12 ∷ 0 ∷ 5 ∷ []
 
-abbrev FilledC : Bool → List ℕ → Type 0
+abbrev FilledC : Result (Unit {0}) Misfit → List ℕ → Type 0
 FilledC answer later = LevelsAre (shape 3 2) both given_c answer later
 
 none-set : (n i : ℕ) → get_or (replicate n false) i false ≡ false
@@ -116,33 +122,33 @@ survivors-c (suc (suc zero)) h k out = absurd (true≢false out)
 survivors-c (suc (suc (suc zero))) h k out = third-kept
 survivors-c (suc (suc (suc (suc i)))) h k out = absurd (omega arith)
 
-filled-c : FilledC true stripe_c
+filled-c : FilledC (Ok tt) stripe_c
 filled-c =
     filled_allowed (shape 3 2) both given_c fillable_c two_chosen stripe_c (record { bytes = parity-c.1; survivors = survivors-c; whole = parity-c.2 })
 
 -- what the stripe holds then, at index j
-at-c : (answer : Bool) (later : List ℕ) → FilledC answer later → (j : ℕ) → get_or later j 0 ≡ get_or stripe_c j 0
-at-c answer later p j = ap (λ (l : List ℕ). get_or l j 0) (levels_settled (shape 3 2) both given_c answer true later stripe_c p filled-c).1
+at-c : (answer : Result (Unit {0}) Misfit) (later : List ℕ) → FilledC answer later → (j : ℕ) → get_or later j 0 ≡ get_or stripe_c j 0
+at-c answer later p j = ap (λ (l : List ℕ). get_or l j 0) (levels_settled (shape 3 2) both given_c answer (Ok tt) later stripe_c p filled-c).1
 
--- false where it can be filled
-pub levels_refuses : (later : List ℕ) → FilledC false later → ⊥
-levels_refuses later p = p.cannot refl fillable_c
+-- a misfit where it can be filled
+pub levels_refuses : (later : List ℕ) → FilledC (Err (record {})) later → ⊥
+levels_refuses later p = p.cannot fillable_c
 
-pub levels_writes_nothing : FilledC true given_c → ⊥
-levels_writes_nothing p = let e : ◌≡◌ {A = ℕ} 7 4 = at-c true _ p 0 in omega arith
+pub levels_writes_nothing : FilledC (Ok tt) given_c → ⊥
+levels_writes_nothing p = let e : ◌≡◌ {A = ℕ} 7 4 = at-c (Ok tt) _ p 0 in omega arith
 
 -- one byte of a chosen column is wrong
-pub levels_wrong_byte : FilledC true (4 ∷ 0 ∷ 0 ∷ 13 ∷ 6 ∷ 15 ∷ 12 ∷ 30 ∷ 2 ∷ 12 ∷ 0 ∷ 5 ∷ []) → ⊥
-levels_wrong_byte p = let e : ◌≡◌ {A = ℕ} 13 12 = at-c true _ p 3 in omega arith
+pub levels_wrong_byte : FilledC (Ok tt) (4 ∷ 0 ∷ 0 ∷ 13 ∷ 6 ∷ 15 ∷ 12 ∷ 30 ∷ 2 ∷ 12 ∷ 0 ∷ 5 ∷ []) → ⊥
+levels_wrong_byte p = let e : ◌≡◌ {A = ℕ} 13 12 = at-c (Ok tt) _ p 3 in omega arith
 
 -- a survivor is changed: bench stripe B is whole
-pub levels_survivor_changed : FilledC true (0 ∷ 0 ∷ 0 ∷ 12 ∷ 0 ∷ 10 ∷ 12 ∷ 30 ∷ 0 ∷ 15 ∷ 0 ∷ 5 ∷ []) → ⊥
-levels_survivor_changed p = let e : ◌≡◌ {A = ℕ} 0 2 = at-c true _ p 8 in omega arith
+pub levels_survivor_changed : FilledC (Ok tt) (0 ∷ 0 ∷ 0 ∷ 12 ∷ 0 ∷ 10 ∷ 12 ∷ 30 ∷ 0 ∷ 15 ∷ 0 ∷ 5 ∷ []) → ⊥
+levels_survivor_changed p = let e : ◌≡◌ {A = ℕ} 0 2 = at-c (Ok tt) _ p 8 in omega arith
 
 -- more than r chosen, and taken
-pub levels_takes_three : (later : List ℕ) → LevelsAre (shape 3 2) three stripe_c true later → ⊥
-levels_takes_three later p = omega (arith, (p.can refl).few, three-chosen)
+pub levels_takes_three : (later : List ℕ) → LevelsAre (shape 3 2) three stripe_c (Ok tt) later → ⊥
+levels_takes_three later p = omega (arith, p.can.few, three-chosen)
 
 -- a wrong length, and a byte is written
-pub levels-refused_writes : LevelsAre (shape 3 2) both (4 ∷ 0 ∷ []) false (0 ∷ 0 ∷ []) → ⊥
-levels-refused_writes p = let e : ◌≡◌ {A = ℕ} 0 4 = ap (λ (l : List ℕ). get_or l 0 0) (p.kept refl) in omega arith
+pub levels-refused_writes : LevelsAre (shape 3 2) both (4 ∷ 0 ∷ []) (Err (record {})) (0 ∷ 0 ∷ []) → ⊥
+levels-refused_writes p = let e : ◌≡◌ {A = ℕ} 0 4 = ap (λ (l : List ℕ). get_or l 0 0) p.kept in omega arith

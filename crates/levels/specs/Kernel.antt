@@ -1,12 +1,12 @@
 -- What the private functions do, each result said whole. Nodes count from 0 here, as in `theory`, and theory's words are meant where a level is
 -- spoken of: `code`, `stripe` and `number`, which carry the rules over, are in crates/rules/proofs/House.antt and crates/field/proofs/Numbers.antt. l is
 -- the length of a column.
---   Fitting nodes count l size == each of the nodes listed has its column among `size` bytes
---   Once nodes count   == no node is listed twice
+--   InOrder n flags nodes == the chosen nodes below n are listed in rising order: before each are as many as its index says
 --   Placed nodes count l found before later == `place_columns`: column j of `found` is put where node nodes j has its column; the others stay
 --   bytes_at sh list == theory's stripe of the columns that stand end to end in a list
---   LevelCorrected sh flags count level before later == `correct_level`: what theory calls corrected, at the rows of that score
-use Rattle.std.specs.Prelude.{◌≡◌, Bool, List, ℕ, ◌+◌, ◌*◌, ◌<◌, ◌≤◌, length, get_or}
+--   LevelCorrected sh flags k level before later == `correct_level`: what theory calls corrected, at the rows of that score
+use Rattle.std.specs.Prelude.{◌≡◌, Bool, true, List, ℕ, ◌+◌, ◌*◌, ◌<◌, length, get_or}
+use Rattle.theory.specs.Set.{count}
 use Rattle.theory.specs.Code.{Stripe}
 use Rattle.theory.specs.Correction as corrections
 use Rattle.field.proofs.Numbers.{number}
@@ -16,11 +16,10 @@ use Rattle.rules.specs.Stripe.{symbol}
 use Rattle.rules.proofs.House.{code, stripe}
 use Rattle.corrections.specs.Correction.{chosen}
 
-abbrev pub Fitting : List ℕ → ℕ → ℕ → ℕ → Type 0
-Fitting nodes count l size = (j : ℕ) → j < count → (get_or nodes j 0 < 16) × (get_or nodes j 0 * l + l ≤ size)
-
-abbrev pub Once : List ℕ → ℕ → Type 0
-Once nodes count = (i j : ℕ) → i < count → j < count → get_or nodes i 0 ≡ get_or nodes j 0 → i ≡ j
+pub record InOrder (n : ℕ) (flags : List Bool) (nodes : List ℕ) : Type 0 where
+  pub below : (j : ℕ) → j < count n (chosen flags) → get_or nodes j 0 < n
+  pub inside : (j : ℕ) → j < count n (chosen flags) → chosen flags (get_or nodes j 0) ≡ true
+  pub rises : (j : ℕ) → j < count n (chosen flags) → count (get_or nodes j 0) (chosen flags) ≡ j
 
 pub record Placed (nodes : List ℕ) (count l : ℕ) (found before later : List ℕ) : Type 0 where
   pub same_length : length later ≡ length before
@@ -30,8 +29,8 @@ pub record Placed (nodes : List ℕ) (count l : ℕ) (found before later : List 
 abbrev pub bytes_at : (sh : Shape) → List ℕ → Stripe (code sh)
 bytes_at sh list i a = number (get_or list (i * rows sh + a) 0)
 
-pub record LevelCorrected (sh : Shape) (flags : List Bool) (count level : ℕ) (before later : List ℕ) : Type 0 where
+pub record LevelCorrected (sh : Shape) (flags : List Bool) (k level : ℕ) (before later : List ℕ) : Type 0 where
   pub same_length : length later ≡ length before
   pub short : List ℕ
   pub corrected :
-      corrections.Corrected (code sh) count (chosen flags) level (stripe sh (symbol sh before)) (bytes_at sh short) (stripe sh (symbol sh later))
+      corrections.Corrected (code sh) k (chosen flags) level (stripe sh (symbol sh before)) (bytes_at sh short) (stripe sh (symbol sh later))

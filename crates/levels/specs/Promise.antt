@@ -4,11 +4,12 @@
 --   LevelsCorrected sh flags count before later == what fills the chosen columns by as many equations as nodes are chosen, in theory's words (`code` and
 --                         `stripe` carry the rules over: crates/rules/proofs/House.antt)
 --   Fillable sh flags stripe == what it is given can be filled: an accepted shape, n × l bytes, at most r nodes chosen and none above n
---   LevelsAre == `fill_levels`: true exactly where it can be filled, and then every later byte is settled by what fills; else nothing is written
-use Rattle.std.specs.Prelude.{◌≡◌, Bool, true, false, List, ℕ, ◌≤◌, length}
+--   LevelsAre == `fill_levels`: Ok exactly where it can be filled, and then every later byte is settled by what fills; else nothing is written
+use Rattle.std.specs.Prelude.{◌≡◌, Bool, false, List, ℕ, ◌≤◌, length, Result, OnOk, OnErr}
 use Rattle.std.proofs.Math.Option.{none}
 use Rattle.theory.specs.Set.{count}
 use Rattle.theory.specs.Whole.{Fills}
+use Rattle.rules.specs.declared.refusals.Misfit.{Misfit}
 use Rattle.rules.specs.declared.shapes.Shape.{Shape}
 use Rattle.rules.specs.Refusal.{shape_refusal}
 use Rattle.rules.specs.Stripe.{stripe_length, symbol, IsBytes}
@@ -28,9 +29,9 @@ pub record Fillable (sh : Shape) (flags : List Bool) (before : List ℕ) : Type 
   pub none_above : NoneFrom sh.n flags
   pub few : count sh.n (chosen flags) ≤ sh.r
 
-pub record LevelsAre (sh : Shape) (flags : List Bool) (before : List ℕ) (answer : Bool) (later : List ℕ) : Type 0 where
-  pub can : answer ≡ true → Fillable sh flags before
-  pub bytes : answer ≡ true → IsBytes (stripe_length sh) later
-  pub filled : answer ≡ true → LevelsCorrected sh flags (count sh.n (chosen flags)) before later
-  pub cannot : answer ≡ false → Fillable sh flags before → ⊥
-  pub kept : answer ≡ false → later ≡ before
+pub record LevelsAre (sh : Shape) (flags : List Bool) (before : List ℕ) (answer : Result (Unit {0}) Misfit) (later : List ℕ) : Type 0 where
+  pub can : OnOk answer (Fillable sh flags before)
+  pub bytes : OnOk answer (IsBytes (stripe_length sh) later)
+  pub filled : OnOk answer (LevelsCorrected sh flags (count sh.n (chosen flags)) before later)
+  pub cannot : OnErr answer (Fillable sh flags before → ⊥)
+  pub kept : OnErr answer (later ≡ before)
