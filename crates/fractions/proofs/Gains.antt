@@ -2,7 +2,7 @@
 -- put among zeros, as the column of one place of a group.
 use mathlib.Core.Path.{◌≡◌, refl, sym, ap, ap₂, ◌∙◌, subst}
 use mathlib.Core.Bool.{cond}
-use mathlib.Core.List.{List, ◌++◌}
+use mathlib.Core.List.{List}
 use mathlib.Core.Logic.{◌⊎◌, inl, inr}
 use Prim.Native.Nat.{ℕ, suc, ◌+◌, ◌-◌, ◌*◌, ◌/◌, ◌%◌, ◌<◌, ◌≤◌, compare}
 use native.Mathlib.Decide.{ℕ_discrete}
@@ -11,7 +11,6 @@ use native.Mathlib.Numerals.{add-one}
 use native.Mathlib.Omega.{arith}
 use lib.Dec.{eqb}
 use lib.ListN.{length, get_or, take, drop, replicate, length-replicate, get_or-replicate}
-use lib.Seq.{take_at}
 use borrow.Author.Tests.{eq-eqb, ne_eqb}
 use borrow.Rule.Slice.PartMut.{put_mid}
 use Rattle.field.specs.Number.{add, mul, power}
@@ -61,29 +60,25 @@ gained-step sh first r l x p weights before xs ys is-point was shared = record {
       ∙ ap (add (get_or before (t * l + a) 0)) (sym (gain-suc sh first x weights t a) ∙ ap (λ k. gain sh first k weights t a) (sym (add-one x)));
 }
 
--- c times a fraction, at the front of an array of zeros, shared out
-pub multiple_shared : (given : List ℕ) (c n k r p : ℕ) (few : n ≤ k) (after rest x y : List ℕ)
-    → Multiplied c given (take n (replicate {A = ℕ} k 0)) after
-    → Shared r p (length (take n (after ++ rest))) (λ a. get_or (take n (after ++ rest)) a 0) x y
-    → Shared r p n (λ a. mul c (get_or given a 0)) x y
-multiple_shared given c n k r p few after rest x y product shared = record {
-  same_length = was.same_length;
-  bytes = λ t a ht ha. was.bytes t a ht ha ∙ ap (λ b. add (get_or x (t * n + a) 0) (mul (power p t) b)) (byte a ha);
-}
-  where
-    exact : length after ≡ n
-    exact = product.same_length ∙ zeros-length n k few
+-- c times a fraction, put into the front of an array of zeros
+module _ (given : List ℕ) (c n k : ℕ) (few : n ≤ k) (after : List ℕ) (product : Multiplied c given (take n (replicate {A = ℕ} k 0)) after) where
+  pub multiple-length : length after ≡ n
+  multiple-length = product.same_length ∙ zeros-length n k few
 
-    was : Shared r p n (λ a. get_or after a 0) x y
-    was =
-        subst (λ m. Shared r p m (λ a. get_or after a 0) x y) exact
-        (subst (λ xs. Shared r p (length xs) (λ a. get_or xs a 0) x y) (take_at after rest n exact) shared)
+  multiple-byte : (a : ℕ) → a < n → get_or after a 0 ≡ mul c (get_or given a 0)
+  multiple-byte a ha =
+      product.bytes a (omega (arith, ha, zeros-length n k few))
+      ∙ ap (λ z. add z (mul c (get_or given a 0))) (zeros-byte n k few a ha)
+      ∙ zero-add (mul c (get_or given a 0))
 
-    byte : (a : ℕ) → a < n → get_or after a 0 ≡ mul c (get_or given a 0)
-    byte a ha =
-        product.bytes a (omega (arith, ha, zeros-length n k few))
-        ∙ ap (λ z. add z (mul c (get_or given a 0))) (zeros-byte n k few a ha)
-        ∙ zero-add (mul c (get_or given a 0))
+  -- and shared out
+  pub multiple_shared : (r p : ℕ) (x y : List ℕ) → Shared r p (length after) (λ a. get_or after a 0) x y → Shared r p n (λ a. mul c (get_or given a 0)) x y
+  multiple_shared r p x y shared =
+      let was = subst (λ m. Shared r p m (λ a. get_or after a 0) x y) multiple-length shared in
+      record {
+        same_length = was.same_length;
+        bytes = λ t a ht ha. was.bytes t a ht ha ∙ ap (λ b. add (get_or x (t * n + a) 0) (mul (power p t) b)) (multiple-byte a ha);
+      }
 
 pub gain-same : (sh : Shape) (first s : ℕ) (weights others : ℕ → ℕ → ℕ) (t a : ℕ) → ((x : ℕ) → x < s → weights x a ≡ others x a)
     → gain sh first s weights t a ≡ gain sh first s others t a

@@ -12,16 +12,16 @@ loop-u-init c = gained_start _ _ _ _ _ _
 pub loop-u-preserved : goal.loop-u-preserved
 loop-u-preserved c =
     let g = c.args.self.now in
-    let addable : Addable g.s g.w c.args.l c.loop-u.u g.r c.loop-u.sums = record {
+    let addable : Addable g.z.s g.w c.args.l c.loop-u.u g.z.shape.r c.loop-u.sums = record {
       counts = g.worth_some;
       counts-most = g.worth_most;
       inside = c.loop-u-test.true;
-      size-most = g.few;
-      few = g.sums_few;
+      size-most = g.z.of_shape.s-most;
+      few = g.z.of_shape.r-most;
       short = c.requires.short;
       exact = c.loop-u.invariant.same_length ∙ c.requires.sums_len;
     } in
-    gained-step g.shape g.first g.r c.args.l c.loop-u.u _ (weight_at g.s g.w c.args.l c.args.columns.now) c.args.sums.now c.loop-u.sums _
+    gained-step g.z.shape g.first g.z.shape.r c.args.l c.loop-u.u _ (weight_at g.z.s g.w c.args.l c.args.columns.now) c.args.sums.now c.loop-u.sums _
     (c.point-p.ensures.inside (omega arith) (omega arith))
     c.loop-u.invariant
     (node-shared c.add_node.result c.add_node.ensures addable)

@@ -4,4 +4,4 @@ use Rattle.fractions.proofs.adding.Group.add_nodes.Given as goal
 
 abbrev pub invariant-loop-u : goal.invariant-loop-u
 invariant-loop-u l =
-    Gained l.self.r l.l (gain l.self.shape l.self.first l.u (weight_at l.self.s l.self.w l.l l.columns)) l.initial.sums l.sums
+    Gained l.shape.r l.l (gain l.shape l.self.first l.u (weight_at l.s l.self.w l.l l.columns)) l.initial.sums l.sums
