@@ -25,8 +25,7 @@ pub fn add_all(sums: &mut [u8], stripe: &[u8], z: Sizes)
         let w = worth(shape, v + 1);
         for u in 0..s {
             let p = point(shape, v * s + u + 1);
-            // Not refused: the sizes are those of an accepted shape.
-            add_node(sums, group, s, w, l, u, p, shape.r);
+            add_node(sums, group, s, w, l, u, p, shape.r).unwrap();
         }
     }
 }
