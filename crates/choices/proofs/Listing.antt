@@ -1,5 +1,5 @@
--- The list of chosen nodes, as it grows by one node after the other. In order: the empty list; a node left out; a node put at the end; its nodes are small; past
--- the last flag nothing is added.
+-- The list of chosen nodes, as it grows by one node after the other. In order: the empty list; a node left out; a node put at the end; past the last flag
+-- nothing is added; a member of a set is told by how many come before it.
 -- Assumes nothing.
 use mathlib.Core.Path.{◌≡◌, refl, sym, ap, subst, ◌∙◌, fun_ext}
 use mathlib.Core.List.{List}
@@ -9,12 +9,10 @@ use native.Mathlib.Nat.{add-zero, min-eq_left, min-eq_right}
 use native.Mathlib.Numerals.{add-one}
 use native.Mathlib.Omega.{arith}
 use native.Mathlib.Decide.{ℕ_discrete, dec_le}
-use lib.Dec.{ltb}
 use lib.ListN.{length, get_or, set, replicate, length-set}
 use lib.Seq.{get_or-set_same, get_or-set_other}
-use borrow.Author.Tests.{ltb-true, ltb-false}
 use Rattle.theory.specs.Set.{count, changed}
-use Rattle.theory.proofs.Counts.{count-zero, count-suc, changed_case, lists_skip, lists_more}
+use Rattle.theory.proofs.Counts.{count-zero, count-suc, count_up, changed_case, lists_skip, lists_more}
 use Rattle.columns.proofs.Parts.{zeros-at}
 use Rattle.corrections.specs.Correction.{chosen}
 use Rattle.choices.specs.Promise.{ListedAre}
@@ -77,14 +75,6 @@ module _ {i : ℕ} {flags : List Bool} {nodes : List ℕ} (are : ListedAre i fla
     rest = λ j h. get_or-set_other nodes _ j i 0 (λ q. omega (arith, count_more taken)) ∙ are.rest j (omega (arith, count_more taken));
   }
 
-  -- where the list ends, 0 stands
-  pub listed_small : i ≤ 16 → (j : ℕ) → get_or nodes j 0 < 16
-  listed_small h j = go (ltb j (count i (chosen flags))) refl
-    where
-      go : (b : Bool) → ltb j (count i (chosen flags)) ≡ b → get_or nodes j 0 < 16
-      go true e = omega (arith, are.lists.below j (ltb-true _ _ e))
-      go false e = omega (arith, are.rest j (ltb-false _ _ e))
-
 -- past the last flag none is chosen, so the list of the first 16 is that of more
 listed-past : {flags : List Bool} {nodes : List ℕ} → length flags ≡ 16 → (k : ℕ) → ListedAre 16 flags nodes → ListedAre (16 + k) flags nodes
 listed-past all zero are = are
@@ -99,3 +89,9 @@ listed-first n {flags} {nodes} all {e} is are = go (dec_le n 16)
     go (no h) =
         subst (λ k. ListedAre k flags nodes) (omega arith)
         (listed-past all (n - 16) (subst (λ k. ListedAre k flags nodes) (is ∙ min-eq_right (omega arith)) are))
+
+not_before : (L : ℕ → Bool) (a b : ℕ) → L a ≡ true → count a L ≡ count b L → a < b → ⊥
+not_before L a b into same h = omega (arith, same, count_up (suc a) b L h, simp into at (count-suc a L))
+
+pub same-member : (L : ℕ → Bool) (a b : ℕ) → L a ≡ true → L b ≡ true → count a L ≡ count b L → a ≡ b
+same-member L a b ia ib same = omega (arith, not_before L a b ia same, not_before L b a ib (sym same))

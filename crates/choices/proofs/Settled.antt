@@ -14,7 +14,6 @@ use lib.Seq.{ext_get_or}
 use Rattle.theory.specs.Digit.{digit, node}
 use Rattle.theory.specs.Score.{score}
 use Rattle.theory.specs.Set.{count}
-use Rattle.theory.proofs.Counts.{count-suc, count_up}
 use Rattle.field.specs.Number.{power}
 use Rattle.rules.specs.declared.shapes.Shape.{Shape}
 use Rattle.rules.specs.Shape.{group_size, groups, rows, accepted}
@@ -24,6 +23,7 @@ use Rattle.rules.specs.Bench.{shape}
 use Rattle.rules.proofs.Accepted.{refusal-cases}
 use Rattle.rules.proofs.Benches.{bench-shape}
 use Rattle.corrections.specs.Correction.{chosen}
+use Rattle.choices.proofs.Listing.{same-member}
 use Rattle.choices.specs.Promise.{CountIs, ListedAre, ListIs, PointsAre, ScoresAre, ScoresMeet, AnyIs}
 
 abbrev outer : List Bool
@@ -43,13 +43,6 @@ count_past p = let e : ◌≡◌ {A = ℕ} 2 1 = p.value in omega arith
 pub count_none : CountIs 3 outer 0 → ⊥
 unfolding count
 count_none p = let e : ◌≡◌ {A = ℕ} 0 2 = p.value in omega arith
-
--- a member of a set is told by how many come before it
-not_before : (L : ℕ → Bool) (a b : ℕ) → L a ≡ true → count a L ≡ count b L → a < b → ⊥
-not_before L a b into same h = omega (arith, same, count_up (suc a) b L h, simp into at (count-suc a L))
-
-same-member : (L : ℕ → Bool) (a b : ℕ) → L a ≡ true → L b ≡ true → count a L ≡ count b L → a ≡ b
-same-member L a b ia ib same = omega (arith, not_before L a b ia same, not_before L b a ib (sym same))
 
 listed-only : (n : ℕ) (flags : List Bool) (x y : List ℕ) → ListedAre n flags x → ListedAre n flags y → x ≡ y
 listed-only n flags x y p q = ext_get_or 0 x y (p.all ∙ sym q.all) (λ j h. go j (dec_le (suc j) (count n (chosen flags))))

@@ -13,6 +13,7 @@ use Rattle.rules.specs.declared.shapes.Shape.{Shape}
 use Rattle.rules.proofs.LostSets.{real, real_in, real-out}
 use Rattle.corrections.specs.Correction.{chosen}
 use Rattle.choices.proofs.Counting.{beyond}
+use Rattle.choices.proofs.Listing.{same-member}
 use Rattle.choices.specs.Promise.{ListedAre}
 use Rattle.levels.specs.Promise.{NoneFrom}
 use Rattle.levels.specs.Kernel.{InOrder}
@@ -30,19 +31,12 @@ module _ (n : ℕ) (flags : List Bool) (all : length flags ≡ 16) where
       go (yes k) = beyond flags i (omega (arith, all, k))
       go (no k) = at (chosen flags i) refl (omega (arith, k))
 
--- a member of a set is told by how many come before it
-not_before : (L : ℕ → Bool) (a b : ℕ) → L a ≡ true → count a L ≡ count b L → a < b → ⊥
-not_before L a b into same h = omega (arith, same, count_up (suc a) b L h, simp into at (count-suc a L))
-
-same-member : (L : ℕ → Bool) (a b : ℕ) → L a ≡ true → L b ≡ true → count a L ≡ count b L → a ≡ b
-same-member L a b ia ib same = omega (arith, not_before L a b ia same, not_before L b a ib (sym same))
-
 module _ {n : ℕ} {flags : List Bool} {nodes : List ℕ} where
   pub in_order : ListedAre n flags nodes → InOrder n flags nodes
   in_order are = record { below = are.lists.below; inside = are.lists.inside; rises = are.rises }
 
   module _ (ordered : InOrder n flags nodes) where
-    pub ordered-once : (i j : ℕ) → i < count n (chosen flags) → j < count n (chosen flags) → get_or nodes i 0 ≡ get_or nodes j 0 → i ≡ j
+    ordered-once : (i j : ℕ) → i < count n (chosen flags) → j < count n (chosen flags) → get_or nodes i 0 ≡ get_or nodes j 0 → i ≡ j
     ordered-once i j hi hj e = sym (ordered.rises i hi) ∙ ap (λ k. count k (chosen flags)) e ∙ ordered.rises j hj
 
     pub ordered-lists : Lists n (chosen flags) (count n (chosen flags)) (λ j. get_or nodes j 0)
