@@ -1,25 +1,51 @@
--- A number in decimal, as the code writes it. In order: a number of one digit, of two and of three with the space before it; how long these are.
-use mathlib.Core.Path.{◌≡◌, refl, ap}
+-- A number in decimal. In order: below 1,000 it is what the library writes; a number of one digit with the space before it; how long these are.
+use mathlib.Core.Path.{◌≡◌, refl, sym, ap, ap₂, ◌∙◌}
 use mathlib.Core.Bool.{Bool, true, false, cond}
-use mathlib.Core.List.{List, [], ◌∷◌}
+use mathlib.Core.List.{List, [], ◌∷◌, ◌++◌, append_assoc}
+use mathlib.Core.Logic.{inl, inr}
 use Prim.Native.Nat.{ℕ, ◌+◌, ◌/◌, ◌%◌, ◌≤◌, ◌<◌}
 use native.Mathlib.Omega.{arith}
 use lib.Dec.{ltb}
 use lib.ListN.{length}
 use borrow.Author.Tests.{lt-ltb, le-ltb}
+use Rattle.std.proofs.lemmas.Bool.{cases_lt}
+use Rattle.std.proofs.lemmas.Fmt.{decimal_digit, decimal_step}
+use Rattle.std.specs.Fmt.{decimal as written}
 use Rattle.text.specs.Text.{decimal, spaced}
+
+-- two digits, three
+two : (x : ℕ) → 10 ≤ x → x < 100 → written x ≡ (48 + x / 10) ∷ (48 + x % 10) ∷ []
+two x low high = decimal_step x low (omega arith) ∙ ap (λ (ds : List ℕ). ds ++ (48 + x % 10) ∷ []) (decimal_digit (x / 10) (omega arith))
+
+three : (x : ℕ) → 100 ≤ x → x < 1000 → written x ≡ (48 + x / 100) ∷ (48 + x / 10 % 10) ∷ (48 + x % 10) ∷ []
+three x low high =
+    let hundreds : x / 10 / 10 ≡ x / 100 = omega arith in
+    decimal_step x (omega arith) (omega arith)
+    ∙ ap (λ (ds : List ℕ). ds ++ (48 + x % 10) ∷ []) (two (x / 10) (omega arith) (omega arith))
+    ∙ rw hundreds refl
+
+pub spaced-written : (x : ℕ) → x < 1000 → spaced x ≡ 32 ∷ written x
+unfolding spaced decimal
+spaced-written x small = elim (cases_lt x 10) [
+  | inl a ↦ rw (lt-ltb x 10 a) (ap (λ (ds : List ℕ). 32 ∷ ds) (sym (decimal_digit x a)))
+  | inr a ↦ rw (le-ltb x 10 a) (elim (cases_lt x 100) [
+    | inl b ↦ rw (lt-ltb x 100 b) (ap (λ (ds : List ℕ). 32 ∷ ds) (sym (two x a b)))
+    | inr b ↦ rw (le-ltb x 100 b) (ap (λ (ds : List ℕ). 32 ∷ ds) (sym (three x b small)))
+  ])
+]
+
+-- a space and what the library writes, put after other words
+pub number-put : (before mid later text : List ℕ) (x : ℕ) → x < 1000 → mid ≡ before ++ (32 ∷ []) → text ≡ written x → later ≡ mid ++ text
+    → later ≡ before ++ spaced x
+number-put before mid later text x small space is put =
+    put
+    ∙ ap₂ (λ (l k : List ℕ). l ++ k) space is
+    ∙ append_assoc before (32 ∷ []) (written x)
+    ∙ ap (λ (l : List ℕ). before ++ l) (sym (spaced-written x small))
 
 pub spaced-one : (x : ℕ) → x < 10 → spaced x ≡ 32 ∷ (48 + x % 10) ∷ []
 unfolding spaced decimal
 spaced-one x h = simp (lt-ltb x 10 h) (ap (λ d. 32 ∷ (48 + d) ∷ []) (omega arith))
-
-pub spaced_two : (x : ℕ) → 10 ≤ x → x < 100 → spaced x ≡ 32 ∷ (48 + x / 10 % 10) ∷ (48 + x % 10) ∷ []
-unfolding spaced decimal
-spaced_two x l h = simp (le-ltb x 10 l, lt-ltb x 100 h) (ap (λ d. 32 ∷ (48 + d) ∷ (48 + x % 10) ∷ []) (omega arith))
-
-pub spaced-three : (x : ℕ) → 100 ≤ x → spaced x ≡ 32 ∷ (48 + x / 100) ∷ (48 + x / 10 % 10) ∷ (48 + x % 10) ∷ []
-unfolding spaced decimal
-spaced-three x l = simp (le-ltb x 10 (omega arith), le-ltb x 100 l)
 
 -- whichever it is, by the two tests
 abbrev digits : Bool → Bool → ℕ → List ℕ

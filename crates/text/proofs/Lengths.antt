@@ -110,6 +110,21 @@ read-most contents stripe taken =
       columns-most sh b lost few stripe,
     )
 
+-- line after line
+pub read-room : (contents : Contents) (stripe : List ℕ) → Taken contents
+    → length (shape_line contents.shape) + length (lost_line contents.shape contents.lost)
+    + length (flat_map (column_line contents.shape stripe) (nodes_of contents.shape contents.lost))
+    ≤ longest_text
+unfolding read_text
+read-room contents stripe taken =
+    let sh = contents.shape in
+    let lost = contents.lost in
+    omega (
+      arith,
+      read-most contents stripe taken,
+      line-length (shape_line sh) (lost_line sh lost) (flat_map (column_line sh stripe) (nodes_of sh lost)),
+    )
+
 pub longest_text_lem : (answer : Unpacked) (stripe : List ℕ) → length (printed answer stripe) ≤ longest_text
 unfolding printed
 longest_text_lem (unpacked.Refused q) stripe = omega (arith, refused-most q)

@@ -3,9 +3,7 @@
 --   Refusal == the refusals, in order
 --   Answer  == the number of each case of the answer
 --   Promise == what the entry promises
---   Kernel  == what the private functions do; no promise of an entry cites it
 pub mod Text
 pub mod Refusal
 pub mod Answer
 pub mod Promise
-pub mod Kernel

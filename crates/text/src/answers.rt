@@ -1,7 +1,7 @@
 // What printing answers. specs/Promise.antt says what each case means.
 
 // The answer of `print`.
-#[derive(Clone, Copy)]
+#[derive(Clone, Copy, Debug, PartialEq, Eq)]
 pub enum Printed {
     // The length of the text.
     Length(usize),

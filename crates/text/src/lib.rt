@@ -1,13 +1,13 @@
 // The text that is printed of a pack: document 01, "The pack file".
 //
 // The entry takes every input and ends: it has no `requires`. What it promises is in specs/Promise.antt, the text in specs/Text.antt.
-// (Functions with a `requires` stand in the private modules `lines`, `printing` and `words`: none can be named from outside.)
+// (Functions with a `requires` stand in the private modules `lines`, `pages` and `printing`: none can be named from outside.)
 #![tactic(auto)]
 
 mod answers;
 mod lines;
+mod pages;
 mod printing;
-mod words;
 
 // What printing answers.
 pub use answers::Printed;
@@ -16,4 +16,4 @@ pub use answers::Printed;
 pub use printing::print;
 
 // How long the longest text is, and how many bytes are lent for one.
-pub use printing::LONGEST_TEXT;
+pub use pages::LONGEST_TEXT;

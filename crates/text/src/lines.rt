@@ -1,106 +1,93 @@
-// The lines of the text, put into it from `at` on; each function answers where its line ends. Functions of this module have a `requires`; none can be
-// named from outside the crate.
-ghost use Rattle.std.specs.Prelude.{◌≡◌, suc, ◌<◌, length};
+// The lines of the text, put at the end of a page. Functions of this module have a `requires`; none can be named from outside the crate.
+ghost use Rattle.std.specs.Prelude.{◌≡◌, ℕ, ◌+◌, ◌≤◌, ◌++◌, length};
 ghost use mathlib.Core.List.{flat_map};
 ghost use Rattle.rules.specs.Promise.{SizesAre};
-ghost use Rattle.entries.specs.Pack.{nodes_of};
-ghost use Rattle.pack.specs.Refusal.{stripe_most};
-ghost use Rattle.text.specs.Text.{spaced_all, refused_line, shape_line, lost_line, column_line};
-ghost use Rattle.text.specs.Kernel.{Fits, Put};
+ghost use Rattle.rules.specs.Rising.{Listed};
+ghost use Rattle.text.specs.Text.{spaced_or_none, line, refused_line, shape_line, column_line, longest_text};
 
-use crate::words::{put, put_bytes, put_number};
+use crate::pages::{Page, push_bytes, push_number};
+use pack::LARGEST_STRIPE;
 use rules::{Shape, Sizes};
 
 // `refused` and the number.
-pub fn put_refused(q: u8, text: &mut [u8]) -> usize
-    requires { Fits 0 (refused_line q) text.old }
-    ensures { Put 0 (refused_line q) text.old text.new result }
+#[tactic(auto, unfolding(crate::specs::Text::refused_line, crate::specs::Text::line))]
+pub fn push_refused(page: &mut Page, q: u8)
+    requires { length page.old.bytes + length (refused_line q) ≤ longest_text }
+    ensures { page.new.bytes ≡ page.old.bytes ++ refused_line q }
 {
-    let word = put(b"refused", 0, text);
-    let number = put_number(q as usize, word, text);
-    put(b"\n", number, text)
+    page.push_str("refused");
+    push_number(page, usize::from(q));
+    page.push_str("\n");
 }
 
 // `shape`, n, r, l.
-pub fn put_shape(shape: Shape, z: Sizes, text: &mut [u8]) -> usize
+#[tactic(auto, unfolding(crate::specs::Text::shape_line, crate::specs::Text::line))]
+pub fn push_shape(page: &mut Page, shape: Shape, z: Sizes)
     requires sizes_are { SizesAre shape z }
-    requires fits { Fits 0 (shape_line shape) text.old }
-    ensures { Put 0 (shape_line shape) text.old text.new result }
+    requires room { length page.old.bytes + length (shape_line shape) ≤ longest_text }
+    ensures { page.new.bytes ≡ page.old.bytes ++ shape_line shape }
 {
-    let word = put(b"shape", 0, text);
-    let n = put_number(z.shape.n, word, text);
-    let r = put_number(z.shape.r, n, text);
-    let l = put_number(z.l, r, text);
-    put(b"\n", l, text)
+    page.push_str("shape");
+    push_number(page, z.n);
+    push_number(page, z.r);
+    push_number(page, z.l);
+    page.push_str("\n");
 }
 
-// Each node of a set.
-fn put_nodes(shape: Shape, z: Sizes, set: u16, at: usize, text: &mut [u8]) -> usize
-    requires sizes_are { SizesAre shape z }
-    requires fits { Fits at (spaced_all (nodes_of shape set)) text.old }
-    ensures { Put at (spaced_all (nodes_of shape set)) text.old text.new result }
+// What follows `lost`: the nodes, or `none`.
+#[tactic(auto, unfolding(crate::specs::Text::spaced_or_none))]
+fn push_nodes(page: &mut Page, nodes: &[u8])
+    requires { length page.old.bytes + length (spaced_or_none nodes.now) ≤ longest_text }
+    ensures { page.new.bytes ≡ page.old.bytes ++ spaced_or_none nodes.now }
 {
-    let mut stop = at;
-    let mut i = 0;
-    while i < z.shape.n {
-        if (set >> i) % 2 == 1 {
-            stop = put_number(i + 1, stop, text);
-        }
-        i = i + 1;
+    if nodes.is_empty() {
+        page.push_str(" none");
+        return;
     }
-    stop
+    push_bytes(page, nodes);
 }
 
 // `lost` and the lost nodes, or `none`.
-pub fn put_lost(shape: Shape, z: Sizes, lost: u16, at: usize, text: &mut [u8]) -> usize
-    requires sizes_are { SizesAre shape z }
-    requires fits { Fits at (lost_line shape lost) text.old }
-    ensures { Put at (lost_line shape lost) text.old text.new result }
+#[tactic(auto, unfolding(crate::specs::Text::line))]
+pub fn push_lost(page: &mut Page, nodes: &[u8])
+    requires { length page.old.bytes + length (line "lost" (spaced_or_none nodes.now)) ≤ longest_text }
+    ensures { page.new.bytes ≡ page.old.bytes ++ line "lost" (spaced_or_none nodes.now) }
 {
-    let word = put(b"lost", at, text);
-    let nodes = put_nodes(shape, z, lost, word, text);
-    if nodes == word {
-        return put(b" none\n", nodes, text);
-    }
-    put(b"\n", nodes, text)
+    page.push_str("lost");
+    push_nodes(page, nodes);
+    page.push_str("\n");
 }
 
-// `column`, node i + 1, and its bytes, which are a part of the stripe.
-fn put_column(shape: Shape, z: Sizes, stripe: &[u8], i: usize, at: usize, text: &mut [u8]) -> usize
+// `column`, a node and its bytes, which are a part of the stripe.
+#[tactic(auto, unfolding(crate::specs::Text::column_line, crate::specs::Text::line))]
+fn push_column(page: &mut Page, shape: Shape, z: Sizes, stripe: &[u8; LARGEST_STRIPE], node: usize)
     requires sizes_are { SizesAre shape z }
-    requires i_lt_n { (i < shape.n) × (length stripe.now ≡ stripe_most) }
-    requires fits { Fits at (column_line shape stripe.now (suc i)) text.old }
-    ensures { Put at (column_line shape stripe.now (suc i)) text.old text.new result }
+    requires inside { (1 ≤ node) × (node ≤ shape.n) }
+    requires room { length page.old.bytes + length (column_line shape stripe.now node) ≤ longest_text }
+    ensures { page.new.bytes ≡ page.old.bytes ++ column_line shape stripe.now node }
 {
-    let from = i * z.l;
-    let to = from + z.l;
-    let word = put(b"column", at, text);
-    let node = put_number(i + 1, word, text);
-    let column = put_bytes(&stripe[from..to], node, text);
-    put(b"\n", column, text)
+    let start = (node - 1) * z.l;
+    let stop = start + z.l;
+    page.push_str("column");
+    push_number(page, node);
+    push_bytes(page, &stripe[start..stop]);
+    page.push_str("\n");
 }
 
-// A line for the column of each node of a set.
-pub fn put_columns(
+// A line for the column of each node.
+pub fn push_columns(
+    page: &mut Page,
     shape: Shape,
     z: Sizes,
-    set: u16,
-    stripe: &[u8],
-    at: usize,
-    text: &mut [u8],
-) -> usize
+    stripe: &[u8; LARGEST_STRIPE],
+    nodes: &[u8],
+)
     requires sizes_are { SizesAre shape z }
-    requires stripe_len { length stripe.now ≡ stripe_most }
-    requires fits { Fits at (flat_map (column_line shape stripe.now) (nodes_of shape set)) text.old }
-    ensures { Put at (flat_map (column_line shape stripe.now) (nodes_of shape set)) text.old text.new result }
+    requires inside { (i : ℕ) → Listed i nodes.now → (1 ≤ i) × (i ≤ shape.n) }
+    requires room { length page.old.bytes + length (flat_map (column_line shape stripe.now) nodes.now) ≤ longest_text }
+    ensures { page.new.bytes ≡ page.old.bytes ++ flat_map (column_line shape stripe.now) nodes.now }
 {
-    let mut stop = at;
-    let mut i = 0;
-    while i < z.shape.n {
-        if (set >> i) % 2 == 1 {
-            stop = put_column(shape, z, stripe, i, stop, text);
-        }
-        i = i + 1;
+    for &node in nodes {
+        push_column(page, shape, z, stripe, usize::from(node));
     }
-    stop
 }
