@@ -56,14 +56,6 @@ spaced-is : (x : ℕ) → spaced x ≡ 32 ∷ digits (ltb x 10) (ltb x 100) x
 unfolding spaced decimal
 spaced-is x = refl
 
-pub spaced-least : (x : ℕ) → 2 ≤ length (spaced x)
-spaced-least x = rw spaced-is (go (ltb x 10) (ltb x 100))
-  where
-    go : (a b : Bool) → 2 ≤ length (32 ∷ digits a b x)
-    go true b = omega arith
-    go false true = omega arith
-    go false false = omega arith
-
 pub spaced-most : (x : ℕ) → length (spaced x) ≤ 4
 spaced-most x = rw spaced-is (go (ltb x 10) (ltb x 100))
   where

@@ -1,14 +1,14 @@
 -- How long the text is at most: every text of an answer fits into the bytes lent for it, and one of them fills them. In order: the lines;
--- the text; that the length answered is within the bytes lent.
-use mathlib.Core.Path.{◌≡◌, refl, sym, ap, ap₂, subst, ◌∙◌}
+-- the text.
+use mathlib.Core.Path.{◌≡◌, refl, ap, ◌∙◌}
 use mathlib.Core.List.{List, [], ◌∷◌, ◌++◌, flat_map}
 use mathlib.Core.Option.{Option, none, some}
 use Prim.Native.Nat.{ℕ, ◌+◌, ◌≤◌}
 use native.Mathlib.Nat.{min-le_left}
 use native.Mathlib.Omega.{arith}
 use lib.Count.{ones, ones_in}
-use lib.ListN.{length, take, drop, replicate, length-append, length-take}
-use lib.Seq.{take-append_seam}
+use Rattle.std.specs.Prelude.{Result, Ok, Err}
+use lib.ListN.{length, drop, replicate, length-append, length-take}
 use Rattle.rules.specs.declared.shapes.Shape.{Shape}
 use Rattle.rules.specs.Shape.{group_size, groups, rows, accepted}
 use Rattle.rules.specs.Stripe.{column, column_start}
@@ -20,13 +20,8 @@ use Rattle.rules.proofs.Pieces.{flat_most}
 use Rattle.entries.specs.Pack.{nodes_of}
 use Rattle.entries.proofs.Sets.{listed_held, held_count}
 use Rattle.pack.specs.declared.answers.Contents.{Contents}
-use Rattle.pack.specs.declared.answers.Unpacked.{Unpacked}
-use Rattle.pack.specs.declared.answers.Unpacked.TheVariants as unpacked
-use Rattle.text.specs.declared.answers.Printed.{Printed}
-use Rattle.text.specs.declared.answers.Printed.TheVariants.{Length}
 use Rattle.text.specs.Text.{letters, decimal, spaced, spaced_all, spaced_or_none, line, refused_line, shape_line, lost_line, column_line}
 use Rattle.text.specs.Text.{read_text, contents_refusal, contents_text, printed, longest_text}
-use Rattle.text.specs.Promise.{PrintMeets}
 use Rattle.text.proofs.Turns.{all-spaced}
 use Rattle.text.proofs.Digits.{spaced-one, spaced-most, spaced-short}
 use Rattle.text.proofs.Refusals.{Taken, none→taken}
@@ -125,34 +120,17 @@ read-room contents stripe taken =
       line-length (shape_line sh) (lost_line sh lost) (flat_map (column_line sh stripe) (nodes_of sh lost)),
     )
 
-pub longest_text_lem : (answer : Unpacked) (stripe : List ℕ) → length (printed answer stripe) ≤ longest_text
+pub longest_text_lem : (answer : Result Contents ℕ) (stripe : List ℕ) → length (printed answer stripe) ≤ longest_text
 unfolding printed
-longest_text_lem (unpacked.Refused q) stripe = omega (arith, refused-most q)
-longest_text_lem (unpacked.Accepted contents) stripe = go (contents_refusal contents) refl
+longest_text_lem (Err q) stripe = omega (arith, refused-most q)
+longest_text_lem (Ok contents) stripe = go (contents_refusal contents) refl
   where
     go : (answer : Option ℕ) → contents_refusal contents ≡ answer → length (contents_text (contents_refusal contents) contents stripe) ≤ longest_text
     go none e = rw e (read-most contents stripe (none→taken contents e))
     go (some q) e = rw e (omega (arith, refused-most q))
 
 -- and some text is as long as that: nodes 13 to 16 of 16 lost, and every byte of three digits
-pub longest_text-is : length (printed (unpacked.Accepted record { shape = shape 16 4; lost = 61440 }) (replicate 4096 100)) ≡ longest_text
+pub longest_text-is : length (printed (Ok record { shape = shape 16 4; lost = 61440 }) (replicate 4096 100)) ≡ longest_text
 unfolding printed contents_refusal accepted rows groups group_size bit_above lost_count ones ones_in read_text shape_line lost_line column_line line spaced_or_none
     spaced_all spaced decimal nodes_of rising is_lost column column_start flat_map
 longest_text-is = refl
-
--- the length that is answered counts bytes at the front of those lent, so that this front can be lent on
-pub print-counts : (answer : Unpacked) (stripe before later : List ℕ) (result : Printed) (k : ℕ) → PrintMeets answer stripe before result later
-    → result ≡ Length k → (k ≤ length later) × (k ≡ length (take k later))
-print-counts answer stripe before later result k meets e = (
-  omega (arith, exact, ap length is, length-append (printed answer stripe) (drop k before)),
-  exact ∙ ap length (sym (take-append_seam (printed answer stripe) (drop k before)) ∙ ap₂ take (sym exact) (sym is)),
-)
-  where
-    m : PrintMeets answer stripe before (Length k) later
-    m = subst (λ p. PrintMeets answer stripe before p later) e meets
-
-    exact : k ≡ length (printed answer stripe)
-    exact = m.1
-
-    is : later ≡ printed answer stripe ++ drop k before
-    is = m.2

@@ -4,6 +4,7 @@ use mathlib.Core.Path.{◌≡◌, ap}
 use mathlib.Core.List.{List, ◌++◌}
 use mathlib.Core.Option.{none}
 use Prim.Native.Nat.{ℕ, ◌≤◌}
+use Rattle.std.specs.Prelude.{Ok}
 use Rattle.rules.specs.declared.shapes.Shape.{Shape}
 use Rattle.rules.specs.Stripe.{column}
 use Rattle.rules.proofs.Pieces.{flat_same}
@@ -24,7 +25,7 @@ module _ (pack before : List ℕ) (contents : Contents) (later : List ℕ) (p : 
       let is = accepted-read pack before contents later p in
       taken→none contents (record { shape = is.taken; none_above = is.inside; few = content-few pack before contents later is passes })
 
-  pub reader_printed : (stripe : List ℕ) → printed (Accepted contents) stripe ≡ read_text contents.shape contents.lost stripe
+  pub reader_printed : (stripe : List ℕ) → printed (Ok contents) stripe ≡ read_text contents.shape contents.lost stripe
   unfolding printed
   reader_printed stripe = ap (λ r. contents_text r contents stripe) reader_calls_for_none
 

@@ -5,15 +5,15 @@ use mathlib.Core.Path.{◌≡◌}
 use mathlib.Core.Bool.{false, not}
 use mathlib.Core.List.{List, [], ◌∷◌}
 use mathlib.Core.Option.{none, some}
-use Prim.Native.Nat.{ℕ, ◌/◌, ◌^◌, ◌≤◌, ◌<◌}
+use Prim.Native.Nat.{ℕ, ◌≤◌}
 use lib.Dec.{ltb}
 use lib.ListN.{length}
-use borrow.Author.Tests.{lt-ltb, le-ltb, eq-eqb, ne_eqb, ltb-false}
+use borrow.Author.Tests.{le-ltb, eq-eqb, ne_eqb, ltb-false}
 use Rattle.rules.specs.Shape.{accepted}
 use Rattle.rules.specs.Lost.{lost_count, bit_above}
 use Rattle.rules.specs.Refusal.{◌given-when◌, shape_refusal}
 use Rattle.rules.proofs.Checks.{none-given}
-use Rattle.rules.proofs.Accepted.{is-accepted, is-refused, not_refused}
+use Rattle.rules.proofs.Accepted.{is-accepted, not_refused}
 use Rattle.pack.specs.declared.answers.Contents.{Contents}
 use Rattle.pack.specs.Refusal.{stripe_most}
 use Rattle.text.specs.Text.{contents_refusal, longest_text}
@@ -25,24 +25,6 @@ pub record Taken (contents : Contents) : Type 0 where
   pub few : lost_count contents.lost ≤ contents.shape.r
 
 module _ (contents : Contents) where
-  pub contents-shape : shape_refusal contents.shape ≡ some 1 → contents_refusal contents ≡ some 1
-  unfolding contents_refusal
-  contents-shape h = simp (is-refused contents.shape 1 h).0
-
-  pub contents_bit : shape_refusal contents.shape ≡ none → (contents.lost / 2 ^ contents.shape.n ≡ 0 → ⊥) → contents_refusal contents ≡ some 3
-  unfolding contents_refusal bit_above
-  contents_bit h b = simp (is-accepted contents.shape h, ne_eqb (contents.lost / 2 ^ contents.shape.n) 0 b)
-
-  pub contents-many : shape_refusal contents.shape ≡ none → contents.lost / 2 ^ contents.shape.n ≡ 0
-      → contents.shape.r < lost_count contents.lost → contents_refusal contents ≡ some 4
-  unfolding contents_refusal bit_above
-  contents-many h b m =
-      simp (
-        is-accepted contents.shape h,
-        eq-eqb (contents.lost / 2 ^ contents.shape.n) 0 b,
-        lt-ltb contents.shape.r (lost_count contents.lost) m,
-      )
-
   pub taken→none : Taken contents → contents_refusal contents ≡ none
   unfolding contents_refusal
   taken→none t =
@@ -65,10 +47,6 @@ module _ (contents : Contents) where
       }
 
 module _ (stripe text : List ℕ) where
-  pub print-stripe : (length stripe ≡ stripe_most → ⊥) → print_refusal stripe text ≡ some 2
-  unfolding print_refusal
-  print-stripe h = simp (ne_eqb (length stripe) stripe_most h)
-
   pub print-text : length stripe ≡ stripe_most → (length text ≡ longest_text → ⊥) → print_refusal stripe text ≡ some 2
   unfolding print_refusal
   print-text h k = simp (eq-eqb (length stripe) stripe_most h, ne_eqb (length text) longest_text k)

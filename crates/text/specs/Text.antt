@@ -14,10 +14,11 @@
 --   contents_refusal contents == the refusal that a shape and a lost set call for that no reader answers: 1, shape not accepted; 3, a lost bit above n;
 --                     4, more than r lost
 --   contents_text refused contents stripe == these lines, or that refusal
+--   numbered answer == an answer of the pack reader, its refusal as the number that is printed
 --   printed answer stripe == the text of an answer of the pack reader and of the stripe that it wrote. What is answered without a refusal and no reader
 --                     answers is printed as the refusal that it calls for; a refusal's number is printed whatever it is
 --   longest_text   == 4,168, how long the longest text is: `shape 16 4 256`, `lost 13 14 15 16`, and four columns of 256 bytes of three digits
-use Rattle.std.specs.Prelude.{cond, not, ℕ, ◌+◌, ◌/◌, ◌%◌, ltb}
+use Rattle.std.specs.Prelude.{Result, Ok, Err, cond, not, ℕ, ◌+◌, ◌/◌, ◌%◌, ltb}
 use mathlib.Core.List.{List, [], ◌∷◌, ◌++◌, flat_map}
 use Rattle.std.proofs.Math.Option.{Option, none, some}
 use Prim.Native.Char.{code}
@@ -85,9 +86,13 @@ abbrev pub contents_text : Option ℕ → Contents → List ℕ → List ℕ
 contents_text none contents stripe = read_text contents.shape contents.lost stripe
 contents_text (some q) contents stripe = refused_line q
 
-unfoldable pub printed : Unpacked → List ℕ → List ℕ
-printed (unpacked.Accepted contents) stripe = contents_text (contents_refusal contents) contents stripe
-printed (unpacked.Refused q) stripe = refused_line q
+abbrev pub numbered : Unpacked → Result Contents ℕ
+numbered (unpacked.Accepted contents) = Ok contents
+numbered (unpacked.Refused q) = Err q
+
+unfoldable pub printed : Result Contents ℕ → List ℕ → List ℕ
+printed (Ok contents) stripe = contents_text (contents_refusal contents) contents stripe
+printed (Err q) stripe = refused_line q
 
 abbrev pub longest_text : ℕ
 longest_text = 4168

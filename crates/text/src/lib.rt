@@ -4,13 +4,9 @@
 // (Functions with a `requires` stand in the private modules `lines`, `pages` and `printing`: none can be named from outside.)
 #![tactic(auto)]
 
-mod answers;
 mod lines;
 mod pages;
 mod printing;
-
-// What printing answers.
-pub use answers::Printed;
 
 // The text of an answer of the pack reader.
 pub use printing::print;

@@ -1,13 +1,12 @@
 // The lines of the text, put at the end of a page. Functions of this module have a `requires`; none can be named from outside the crate.
 ghost use Rattle.std.specs.Prelude.{◌≡◌, ℕ, ◌+◌, ◌≤◌, ◌++◌, length};
 ghost use mathlib.Core.List.{flat_map};
-ghost use Rattle.rules.specs.Promise.{SizesAre};
 ghost use Rattle.rules.specs.Rising.{Listed};
 ghost use Rattle.text.specs.Text.{spaced_or_none, line, refused_line, shape_line, column_line, longest_text};
 
 use crate::pages::{Page, push_bytes, push_number};
 use pack::LARGEST_STRIPE;
-use rules::{Shape, Sizes};
+use rules::Sizes;
 
 // `refused` and the number.
 #[tactic(auto, unfolding(crate::specs::Text::refused_line, crate::specs::Text::line))]
@@ -22,15 +21,14 @@ pub fn push_refused(page: &mut Page, q: u8)
 
 // `shape`, n, r, l.
 #[tactic(auto, unfolding(crate::specs::Text::shape_line, crate::specs::Text::line))]
-pub fn push_shape(page: &mut Page, shape: Shape, z: Sizes)
-    requires sizes_are { SizesAre shape z }
-    requires room { length page.old.bytes + length (shape_line shape) ≤ longest_text }
-    ensures { page.new.bytes ≡ page.old.bytes ++ shape_line shape }
+pub fn push_shape(page: &mut Page, sizes: Sizes)
+    requires { length page.old.bytes + length (shape_line sizes.shape) ≤ longest_text }
+    ensures { page.new.bytes ≡ page.old.bytes ++ shape_line sizes.shape }
 {
     page.push_str("shape");
-    push_number(page, z.n);
-    push_number(page, z.r);
-    push_number(page, z.l);
+    push_number(page, sizes.shape.n);
+    push_number(page, sizes.shape.r);
+    push_number(page, sizes.l);
     page.push_str("\n");
 }
 
@@ -60,14 +58,13 @@ pub fn push_lost(page: &mut Page, nodes: &[u8])
 
 // `column`, a node and its bytes, which are a part of the stripe.
 #[tactic(auto, unfolding(crate::specs::Text::column_line, crate::specs::Text::line))]
-fn push_column(page: &mut Page, shape: Shape, z: Sizes, stripe: &[u8; LARGEST_STRIPE], node: usize)
-    requires sizes_are { SizesAre shape z }
-    requires inside { (1 ≤ node) × (node ≤ shape.n) }
-    requires room { length page.old.bytes + length (column_line shape stripe.now node) ≤ longest_text }
-    ensures { page.new.bytes ≡ page.old.bytes ++ column_line shape stripe.now node }
+fn push_column(page: &mut Page, sizes: Sizes, stripe: &[u8; LARGEST_STRIPE], node: usize)
+    requires inside { (1 ≤ node) × (node ≤ sizes.shape.n) }
+    requires room { length page.old.bytes + length (column_line sizes.shape stripe.now node) ≤ longest_text }
+    ensures { page.new.bytes ≡ page.old.bytes ++ column_line sizes.shape stripe.now node }
 {
-    let start = (node - 1) * z.l;
-    let stop = start + z.l;
+    let start = (node - 1) * sizes.l;
+    let stop = start + sizes.l;
     page.push_str("column");
     push_number(page, node);
     push_bytes(page, &stripe[start..stop]);
@@ -75,19 +72,12 @@ fn push_column(page: &mut Page, shape: Shape, z: Sizes, stripe: &[u8; LARGEST_ST
 }
 
 // A line for the column of each node.
-pub fn push_columns(
-    page: &mut Page,
-    shape: Shape,
-    z: Sizes,
-    stripe: &[u8; LARGEST_STRIPE],
-    nodes: &[u8],
-)
-    requires sizes_are { SizesAre shape z }
-    requires inside { (i : ℕ) → Listed i nodes.now → (1 ≤ i) × (i ≤ shape.n) }
-    requires room { length page.old.bytes + length (flat_map (column_line shape stripe.now) nodes.now) ≤ longest_text }
-    ensures { page.new.bytes ≡ page.old.bytes ++ flat_map (column_line shape stripe.now) nodes.now }
+pub fn push_columns(page: &mut Page, sizes: Sizes, stripe: &[u8; LARGEST_STRIPE], nodes: &[u8])
+    requires inside { (i : ℕ) → Listed i nodes.now → (1 ≤ i) × (i ≤ sizes.shape.n) }
+    requires room { length page.old.bytes + length (flat_map (column_line sizes.shape stripe.now) nodes.now) ≤ longest_text }
+    ensures { page.new.bytes ≡ page.old.bytes ++ flat_map (column_line sizes.shape stripe.now) nodes.now }
 {
     for &node in nodes {
-        push_column(page, shape, z, stripe, usize::from(node));
+        push_column(page, sizes, stripe, usize::from(node));
     }
 }

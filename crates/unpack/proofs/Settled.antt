@@ -13,14 +13,14 @@ use Rattle.pack.specs.declared.answers.Unpacked.TheVariants.{Accepted, Refused}
 use Rattle.pack.specs.Refusal.{stripe_most}
 use Rattle.pack.specs.Promise.{ReadMeets}
 use Rattle.pack.proofs.Settled.{read_settled, read_refuses}
-use Rattle.text.specs.Text.{line, shape_line, read_text, refused_line, contents_refusal, contents_text, printed}
+use Rattle.text.specs.Text.{line, shape_line, read_text, refused_line, contents_refusal, contents_text, numbered, printed}
 use Rattle.text.proofs.Readers.{reader_printed}
 use Rattle.unpack.specs.Shown.{Shows}
 
 pub shows_settled : (input x y : List ℕ) → Shows input x → Shows input y → x ≡ y
 shows_settled input x y p q =
     let same = read_settled (take input_most input) (replicate stripe_most 0) p.answer q.answer p.stripe q.stripe p.read q.read in
-    p.is ∙ ap₂ printed same.0 same.1 ∙ sym q.is
+    p.is ∙ ap₂ (λ answer stripe. printed (numbered answer) stripe) same.0 same.1 ∙ sym q.is
 
 -- the first letter of a text: r where it is a refusal, s of what is read
 first : List ℕ → ℕ
@@ -43,7 +43,7 @@ pub shows_nothing : (input : List ℕ) → Shows input [] → ⊥
 unfolding printed first
 shows_nothing input p = go p.answer p.is
   where
-    go : (answer : Unpacked) → [] ≡ printed answer p.stripe → ⊥
+    go : (answer : Unpacked) → [] ≡ printed (numbered answer) p.stripe → ⊥
     go (Accepted contents) e = first-text (contents_refusal contents) contents p.stripe (sym (ap first e))
     go (Refused q) e = let f = sym (first-refused q) ∙ sym (ap first e) in omega arith
 
@@ -51,7 +51,7 @@ shows_nothing input p = go p.answer p.is
 pub shows_refusal : (q : ℕ) → Shows worked (refused_line q) → ⊥
 shows_refusal q p = go p.answer p.read p.is
   where
-    go : (answer : Unpacked) → ReadMeets worked (replicate stripe_most 0) answer p.stripe → refused_line q ≡ printed answer p.stripe → ⊥
+    go : (answer : Unpacked) → ReadMeets worked (replicate stripe_most 0) answer p.stripe → refused_line q ≡ printed (numbered answer) p.stripe → ⊥
     go (Accepted contents) read e =
         let f = sym (first-refused q) ∙ ap first e ∙ ap first (reader_printed worked (replicate stripe_most 0) contents p.stripe read p.stripe) ∙ first-read contents p.stripe in omega arith
     go (Refused k) read e = read_refuses (replicate stripe_most 0) refl k p.stripe read

@@ -31,4 +31,4 @@ loop-i-preserved c =
     ]
 
 pub returns : goal.returns
-returns c = c.loop-i.invariant.are ∙ ap (nodes_to c.args.lost) (omega (arith, c.loop-i.auto.i-end, c.loop-i-test.false)) ∙ sym (nodes-all c.args.shape c.args.lost)
+returns c = c.loop-i.invariant.are ∙ ap (nodes_to c.args.lost) (omega (arith, c.loop-i.auto.i-end, c.loop-i-test.false)) ∙ sym (nodes-all c.args.sizes.shape c.args.lost)

@@ -1,6 +1,8 @@
-use mathlib.Core.Path.{refl}
-use Rattle.text.proofs.Refusals.{print-text}
+use Rattle.std.proofs.Common.{arith}
+use Rattle.std.proofs.lemmas.Grind.{common_steps}
+use Rattle.text.specs.Refusal.{print_refusal}
 use Rattle.text.proofs.printing.print.Goals as goal
 
-pub returns-then-text-ne-LONGEST_TEXT : goal.returns-then-text-ne-LONGEST_TEXT
-returns-then-text-ne-LONGEST_TEXT c = (print-text c.args.stripe.now c.args.text.now c.in-Ok.ensures.1.long c.if-text-ne-LONGEST_TEXT.true, refl)
+pub returns-in_err-check_len : goal.returns-in_err-check_len
+unfolding print_refusal
+returns-in_err-check_len c = let long = c.in-Ok.ensures.1.long in grind (arith, common_steps)
