@@ -18,11 +18,13 @@ use Rattle.field.proofs.Xor.{zero-add, add-zero, add_self, add-below}
 use Rattle.field.proofs.Numbers.{numbers, number, number-add, number_injective}
 use Rattle.rules.specs.declared.shapes.Shape.{Shape}
 use Rattle.rules.specs.Rising.{rising}
-use Rattle.rules.specs.Shape.{phantom}
+use Rattle.rules.specs.declared.shapes.Sizes.{Sizes}
+use Rattle.rules.specs.Shape.{group_size, phantom}
 use Rattle.rules.specs.Stripe.{Symbols}
 use Rattle.rules.specs.Equation.{equation}
 use Rattle.rules.specs.Fraction.{is_read, rows_read, fraction_length, helper_before, fraction_of, arrived, alone}
-use Rattle.rules.proofs.Accepted.{Bounds}
+use Rattle.rules.proofs.Accepted.{Bounds, bounds}
+use Rattle.rules.proofs.RowsRead.{fraction-times}
 use Rattle.rules.proofs.House.{code, stripe}
 use Rattle.rules.proofs.Ties.{equation_tie, equation-below}
 use Rattle.columns.proofs.Kernels.{entry-within}
@@ -162,11 +164,20 @@ helper_most f i n f-first f-last first last ne = go (lt_or_gt i f ne)
     go (inl l) = rw (lt-ltb i f l) (omega arith)
     go (inr l) = rw (le-ltb i f (omega (arith, l))) (omega arith)
 
--- where it ends
-pub fraction_within : (f i n size q : ℕ) → 1 ≤ f → f ≤ n → 1 ≤ i → i ≤ n → (i ≡ f → ⊥) → q ≡ helper_before f i → q * size + size ≤ (n - 1) * size
-fraction_within f i n size q f-first f-last first last ne is =
-    omega (arith, mul-le-mul_right {m = suc q} {n = n - 1} size (omega (arith, is, helper_most f i n f-first f-last first last ne)))
+-- where it begins and ends
+pub record Ends (n f i q size : ℕ) : Type 0 where
+  pub within : q * size + size ≤ (n - 1) * size
+  pub few : (n - 1) * size ≤ 2048
 
--- all fractions, however many nodes there are up to 16
-pub fractions-most : (n size : ℕ) → n ≤ 16 → size ≤ 256 → (n - 1) * size ≤ 4096
-fractions-most n size hn hs = mul-le-mul {n₂ = 16} {m₂ = 256} (omega (arith, hn)) hs
+pub fraction_ends : (n f i q size : ℕ) → q ≡ helper_before f i → n ≤ 16 → size ≤ 128 → 1 ≤ f → f ≤ n → 1 ≤ i → i ≤ n → (i ≡ f → ⊥) → Ends n f i q size
+fraction_ends n f i q size is n-most size-most f-first f-last first last ne = record {
+  within = omega (arith, mul-le-mul_right {m = suc q} {n = n - 1} size (omega (arith, is, helper_most f i n f-first f-last first last ne)));
+  few = mul-le-mul {n₂ = 16} {m₂ = 128} (omega (arith, n-most)) size-most;
+}
+
+-- as many sums as a column has bytes
+pub sums_most : (z : Sizes) → z.shape.r * fraction_length z.shape ≤ 256
+unfolding group_size
+sums_most z =
+    let b = bounds z.shape z.of_shape.taken in
+    omega (arith, fraction-times z.shape b, b.l-most)

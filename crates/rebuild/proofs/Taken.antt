@@ -16,7 +16,8 @@ use Rattle.rules.specs.Refusal.{◌given-when◌, shape_refusal}
 use Rattle.rules.proofs.Checks.{not_other, none-given}
 use Rattle.rules.proofs.Accepted.{bounds, is-accepted, not_refused}
 use Rattle.rules.proofs.Rebuildings.{rebuilt-only}
-use Rattle.yebarg.specs.declared.answers.Outcome.{Outcome}
+use Rattle.std.specs.Prelude.{Result}
+use Rattle.rules.specs.declared.refusals.Refusal.{Refusal}
 use Rattle.rules.specs.Refusal.{not_node}
 use Rattle.yebarg.proofs.Refusals.{a-node, is-node}
 use Rattle.rebuild.specs.Refusal.{rebuild_refusal}
@@ -61,7 +62,7 @@ module _ (sh : Shape) (failed : ℕ) (fractions before : List ℕ) where
       )
 
   -- where nothing is refused, a column that meets the equations is the one that is written
-  pub rebuild-answers : (answer : Outcome) (later : List ℕ) → rebuild_refusal sh failed fractions before ≡ none
+  pub rebuild-answers : (answer : Result (Unit {0}) Refusal) (later : List ℕ) → rebuild_refusal sh failed fractions before ≡ none
       → RebuildMeets sh failed fractions before answer later → (col : List ℕ) → IsBytes (rows sh) col → MeetsRead sh failed fractions col → later ≡ col
   rebuild-answers answer later taken p col bytes meets =
       let t = rebuild-taken taken in
