@@ -6,16 +6,17 @@ ghost use Rattle.weights.specs.Kernel.{Weighed};
 
 use columns::byte_at;
 use field::double;
-use std::cmp::Ordering;
 
 // The weight by its three cases: u is the node's place, d the row's digit. γ is 2.
 fn coupled(u: usize, d: usize, own: u8, other: u8) -> u8
     ensures { result ≡ weighed (compare u d) own other }
 {
-    match u.cmp(&d) {
-        Ordering::Less => double(own) ^ other,
-        Ordering::Equal => own,
-        Ordering::Greater => own ^ other,
+    if u == d {
+        own
+    } else if d < u {
+        own ^ other
+    } else {
+        double(own) ^ other
     }
 }
 

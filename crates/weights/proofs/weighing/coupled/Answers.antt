@@ -1,6 +1,5 @@
--- `weights::coupled` meets its contract: what `cmp` answers is how the place compares with the digit, and γ is 2.
-use Rattle.std.proofs.Common.{◌≡◌, ℕ, Less, Equal, Greater, sym, ap, ◌∙◌, bit_xor}
-use Rattle.std.proofs.lemmas.Cmp.{ranked}
+-- `weights::coupled` meets its contract: what the tests found is how the place compares with the digit, and γ is 2.
+use Rattle.std.proofs.Common.{◌≡◌, ℕ, arith, sym, ap, ◌∙◌, bit_xor}
 use Prim.Native.Nat.{compare, Ordering}
 use Rattle.theory.specs.Pair.{Compared}
 use Rattle.theory.proofs.Mates.{compare_only}
@@ -14,16 +13,16 @@ use Rattle.weights.proofs.weighing.coupled.Goals as goal
 picked : (o : Ordering) (u d own other : ℕ) → Compared o u d → weighed o own other ≡ weighed (compare u d) own other
 picked o u d own other h = ap (λ p. weighed p own other) (sym (compare_only u d o h))
 
-pub returns-in-Less : goal.returns-in-Less
-unfolding weighed add γ
-returns-in-Less c =
-    ap (λ x. bit_xor x c.args.other) (c.double.ensures.value ∙ mul_comm c.args.own 2)
-    ∙ picked Ordering.lt c.args.u c.args.d c.args.own c.args.other (ranked c.args.u c.args.d Less c.in-Less.ensures)
-
-pub returns-in-Equal : goal.returns-in-Equal
+pub returns-then-u-d : goal.returns-then-u-d
 unfolding weighed
-returns-in-Equal c = picked Ordering.eq c.args.u c.args.d c.args.own c.args.other (ranked c.args.u c.args.d Equal c.in-Equal.ensures)
+returns-then-u-d c = picked Ordering.eq c.args.u c.args.d c.args.own c.args.other c.if-u-d.true
 
-pub returns-in-Greater : goal.returns-in-Greater
+pub returns-then-d-u : goal.returns-then-d-u
 unfolding weighed add
-returns-in-Greater c = picked Ordering.gt c.args.u c.args.d c.args.own c.args.other (ranked c.args.u c.args.d Greater c.in-Greater.ensures)
+returns-then-d-u c = picked Ordering.gt c.args.u c.args.d c.args.own c.args.other c.if-d-u.true
+
+pub returns-else-d-u : goal.returns-else-d-u
+unfolding weighed add γ
+returns-else-d-u c =
+    ap (λ x. bit_xor x c.args.other) (c.double.ensures.value ∙ mul_comm c.args.own 2)
+    ∙ picked Ordering.lt c.args.u c.args.d c.args.own c.args.other (omega arith)
