@@ -16,12 +16,12 @@ pub multiplied-by : (c : ℕ) {may : ℕ → ℕ → Type 0} {from before later 
 multiplied-by c {may} {from} {before} {later} multiplies adds = record {
   same_length = adds.same_length;
   bytes = λ j h. elim (cases_lt j (length from)) [
-    inl a ↦ let p = adds.bytes j h a in p.1.1 ∙ ap (add (get_or before j 0)) (multiplies j p.0 p.1.0)
-  | inr b ↦
-      adds.kept j b
-      ∙ sym
-      (ap (λ x. add (get_or before j 0) (mul c x)) (get_or_past from j 0 b)
-      ∙ ap (add (get_or before j 0)) (mul-zero c)
-      ∙ add-zero (get_or before j 0))
+    | inl a ↦ let p = adds.bytes j h a in p.1.1 ∙ ap (add (get_or before j 0)) (multiplies j p.0 p.1.0)
+    | inr b ↦
+        adds.kept j b
+        ∙ sym
+        (ap (λ x. add (get_or before j 0) (mul c x)) (get_or_past from j 0 b)
+        ∙ ap (add (get_or before j 0)) (mul-zero c)
+        ∙ add-zero (get_or before j 0))
   ];
 }

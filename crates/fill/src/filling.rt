@@ -58,7 +58,14 @@ fn fill_one(stripe: &mut [u8], shape: Shape, z: Sizes, flags: [bool; 16], count:
     ensures { FilledOne shape flags count stripe.old result stripe.new }
 {
     let mut scratch = [0u8; 4096];
-    fill_in(&mut scratch[..z.shape.n * z.l], stripe, shape, z, flags, count)
+    fill_in(
+        &mut scratch[..z.shape.n * z.l],
+        stripe,
+        shape,
+        z,
+        flags,
+        count,
+    )
 }
 
 // Fills the lost columns, bit i − 1 of `lost` for node i, so that the stripe is whole.

@@ -20,7 +20,7 @@ slice_bounds-sums-end c =
     sym (zeros-length (c.in-Ok.z.shape.r * c.fraction_len-2.result) 256 (omega (arith, ap (λ n. c.in-Ok.z.shape.r * n) c.fraction_len-2.ensures.is, sums_most c.in-Ok.z)))
 
 pub add_all-requires : goal.add_all-requires
-add_all-requires c = 
+add_all-requires c =
     let z = c.in-Ok.z in
     sums_start z.shape c.args.failed c.args.fractions.now (bounds z.shape z.of_shape.taken) z.shape.r c.fraction_len-2.result 256 refl c.fraction_len-2.ensures.is
     (omega (arith, ap (λ n. z.shape.r * n) c.fraction_len-2.ensures.is, sums_most z))
