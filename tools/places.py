@@ -49,7 +49,7 @@ ROWS = [
     ("1 refusals handed on by a number", lambda: grep(r"\w+::Refused\(\w*[a-z_]\w*\)(?! =>)")),
     ("1 bool that says whether a buffer was written", lambda: heads(has(r"&mut", r"-> bool$"))),
     ("1 number that is 0 where there is none", lambda: heads(has(r"fn (first_\w+|lowest\w*)\(", r"-> usize$"))),
-    ("1 types without Debug or equality", lambda: grep(r"(?:#\[derive\([^)]*\)\]\s*)?\n(?:pub )?(?:struct|enum) \w+", lambda m: not ("Debug" in m.group() and "PartialEq" in m.group()))),
+    ("1 public types without Debug or equality", lambda: grep(r"(?:#\[derive\([^)]*\)\]\s*)?\npub (?:struct|enum) \w+", lambda m: not ("Debug" in m.group() and "PartialEq" in m.group()))),
     ("2 functions of one stem that differ in what is run", lambda: grep(r"fn \w+_case\(")),
     ("2 functions that set an array of flags", lambda: heads(has(r"-> \[bool; 16\]$"))),
     ("3 while loops", lambda: grep(r"\bwhile [^{]*\{")),

@@ -20,6 +20,7 @@ use Rattle.rules.proofs.Numbers.{number_of-injective}
 use Rattle.rules.specs.Bench.{shape}
 use Rattle.rules.proofs.Accepted.{refusal-cases}
 use Rattle.rules.proofs.Measures.{sizes_same}
+use Rattle.rules.specs.Sizes.{AreSizes}
 use Rattle.rules.specs.Promise.{NewIs, MeasuredIs, WorthIs, PointIs}
 
 pub new_settled : (n r : ℕ) (x y : Shape) → NewIs n r x → NewIs n r y → x ≡ y
@@ -50,10 +51,15 @@ pub measure-accepts : (z : Sizes) → MeasuredIs (shape 16 3) (Ok z) → ⊥
 unfolding shape_refusal accepted rows groups group_size
 measure-accepts z p = some-ne-none 1 (sym (ap shape_refusal p) ∙ z.of_shape.taken)
 
--- one wrong number among the sizes: l is 4
-pub measure_wrong_rows : (z : Sizes) → z.l ≡ 3 → MeasuredIs (shape 3 2) (Ok z) → ⊥
+-- one wrong number among the sizes, which the type rules out: l is 4
+pub measure_wrong_rows : AreSizes (shape 3 2) 1 2 3 2 → ⊥
 unfolding rows groups group_size
-measure_wrong_rows z three p = let e : ◌≡◌ {A = ℕ} 3 4 = sym three ∙ z.of_shape.l-is ∙ ap rows p in omega arith
+measure_wrong_rows p = let e : ◌≡◌ {A = ℕ} 3 4 = p.l-is in omega arith
+
+-- nor are they the sizes of another shape
+pub measure_other_shape : (z : Sizes) → z.l ≡ 8 → MeasuredIs (shape 3 2) (Ok z) → ⊥
+unfolding rows groups group_size
+measure_other_shape z eight p = let e : ◌≡◌ {A = ℕ} 8 4 = sym eight ∙ z.of_shape.l-is ∙ ap rows p in omega arith
 
 -- no other refusal number
 pub measure-numbers : MeasuredIs (shape 16 3) (Err refusal.BadLength) → ⊥
