@@ -40,6 +40,18 @@ module _ (test : ℕ → Bool) where
       ap (λ t. cond t (suc e) (first_from test (suc e) more)) (h e (omega arith) (omega arith))
       ∙ from_none (suc e) more (λ i k l. h i (omega arith) (omega arith))
 
+-- the first number that it holds of
+pub from_found : (test : ℕ → Bool) (e more i : ℕ) → e ≤ i → i < e + more → test i ≡ true → ((d : ℕ) → e ≤ d → d < i → test d ≡ false)
+    → first_from test e more ≡ suc i
+unfolding first_from
+from_found test e zero i h k here before = absurd (omega arith)
+from_found test e (suc more) i h k here before =
+    go (eq-or-lt_of_le h) (λ l. from_found test (suc e) more i l (omega arith) here (λ d u v. before d (omega arith) v))
+  where
+    go : (e ≡ i) ⊎ (e < i) → (e < i → first_from test (suc e) more ≡ suc i) → cond (test e) (suc e) (first_from test (suc e) more) ≡ suc i
+    go (inl q) later = ap (λ t. cond t (suc e) (first_from test (suc e) more)) (ap test q ∙ here) ∙ ap suc q
+    go (inr l) later = ap (λ t. cond t (suc e) (first_from test (suc e) more)) (before e (omega arith) l) ∙ later l
+
 -- two tests that agree
 pub from_same : (test other : ℕ → Bool) (e more : ℕ) → ((i : ℕ) → e ≤ i → i < e + more → test i ≡ other i) → first_from test e more ≡ first_from other e more
 unfolding first_from

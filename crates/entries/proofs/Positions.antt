@@ -8,7 +8,7 @@ use mathlib.Core.Path.{◌≡◌, refl, sym, ap, ◌∙◌}
 use mathlib.Core.Bool.{Bool, true, false}
 use mathlib.Core.List.{List, [], ◌∷◌, ◌++◌}
 use Prim.Native.Nat.{ℕ, zero, suc, ◌+◌, ◌-◌, ◌*◌, ◌/◌, ◌%◌, ◌<◌, ◌≤◌}
-use native.Mathlib.Nat.{not-suc-le-zero, add-zero, add_assoc, div-div-eq-div-mul, mod-add-div, mod-eq_of_lt, le_of_lt, mul-le-mul_right}
+use native.Mathlib.Nat.{add-zero, add_assoc, div-div-eq-div-mul, mod-add-div, mod-eq_of_lt, le_of_lt, mul-le-mul_right}
 use native.Mathlib.Omega.{arith}
 use lib.Dec.{ltb}
 use lib.ListN.{length, get_or, drop, length-append, length-drop, get_or-append}
@@ -17,7 +17,7 @@ use borrow.Author.Tests.{ltb-true, ltb-false}
 use Rattle.rules.specs.declared.shapes.Shape.{Shape}
 use Rattle.rules.specs.Shape.{rows}
 use Rattle.entries.specs.Pack.{four_bytes, columns_at, offset_of, total_of, header, entry, entries_from, packed_nodes, entry_at}
-use Rattle.entries.specs.Parts.{byte_at, number_at, node_in, node_before}
+use Rattle.entries.specs.Parts.{byte_at, number_at, node_in}
 
 pub entry_begins : (e : ℕ) → entry_at e ≡ 8 + 8 * e
 unfolding entry_at
@@ -30,16 +30,6 @@ columns_begin p = refl
 pub node_in_lem : (pack : List ℕ) (e : ℕ) → node_in pack e ≡ byte_at pack (8 + 8 * e)
 unfolding node_in entry_at
 node_in_lem pack e = refl
-
-pub node-before-first : (pack : List ℕ) (e : ℕ) → e ≤ 0 → node_before pack e ≡ 0
-unfolding node_before
-node-before-first pack zero h = refl
-node-before-first pack (suc e) h = absurd (not-suc-le-zero h)
-
-pub node-before : (pack : List ℕ) (e : ℕ) → 0 < e → node_before pack e ≡ byte_at pack (8 + 8 * e - 8)
-unfolding node_before
-node-before pack zero h = absurd (not-suc-le-zero h)
-node-before pack (suc e) h = node_in_lem pack e ∙ ap (byte_at pack) (omega arith)
 
 -- four bytes and the number that they are
 number-bytes : (a b c d x : ℕ) → a < 256 → b < 256 → c < 256 → d < 256 → a + 256 * b + 65536 * c + 16777216 * d ≡ x

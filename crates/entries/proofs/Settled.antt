@@ -8,11 +8,13 @@ use mathlib.Core.List.{List, [], ◌∷◌}
 use Prim.Native.Nat.{ℕ}
 use native.Mathlib.Omega.{arith}
 use lib.ListN.{length}
+use Rattle.std.specs.Prelude.{Option, None, Some}
+use Rattle.std.proofs.lemmas.Option.{none-some}
 use Rattle.rules.specs.Refusal.{not_node}
 use Rattle.entries.specs.Pack.{columns_at, entry_at}
 use Rattle.entries.specs.Parts.{shape_in, node_in, padded_in, node_before}
 use Rattle.entries.specs.Refusal.{first_from, bad_entry, first_bad_entry}
-use Rattle.entries.specs.Promise.{is_shorter, ShorterIs, FirstBadIs, EntriesGood, HeldOfIs}
+use Rattle.entries.specs.Promise.{is_shorter, found, ShorterIs, FirstBadIs, EntriesGood, HeldOfIs}
 use Rattle.entries.proofs.Sets.{same_nodes, nodes-none}
 use Rattle.entries.proofs.Good.{nodes_in_length}
 use Rattle.entries.proofs.Checking.{formed_or}
@@ -20,7 +22,7 @@ use Rattle.entries.proofs.Checking.{formed_or}
 pub shorter_settled : (pack : List ℕ) (a b : Bool) → ShorterIs pack a → ShorterIs pack b → a ≡ b
 shorter_settled pack a b p q = p.value ∙ sym q.value
 
-pub first_bad_entry_settled : (pack : List ℕ) (x y : ℕ) → FirstBadIs pack x → FirstBadIs pack y → x ≡ y
+pub first_bad_entry_settled : (pack : List ℕ) (x y : Option ℕ) → FirstBadIs pack x → FirstBadIs pack y → x ≡ y
 first_bad_entry_settled pack x y p q = go (is_shorter pack) refl
   where
     go : (b : Bool) → is_shorter pack ≡ b → x ≡ y
@@ -61,11 +63,11 @@ unfolding is_shorter columns_at entry_at
 shorter_takes p = true≢false (sym p.value)
 
 -- a good entry found bad, and node 4 of 3 taken
-pub first_bad_entry_refuses : FirstBadIs (one 2) 1 → ⊥
-first_bad_entry_refuses p = let e : ◌≡◌ {A = ℕ} 1 0 = p.there (one-there 2) ∙ one-good in omega arith
+pub first_bad_entry_refuses : FirstBadIs (one 2) (Some 1) → ⊥
+first_bad_entry_refuses p = none-some 1 (sym (p.there (one-there 2) ∙ ap found one-good))
 
-pub first_bad_entry_takes : FirstBadIs (one 4) 0 → ⊥
-first_bad_entry_takes p = let e : ◌≡◌ {A = ℕ} 0 1 = p.there (one-there 4) ∙ four_bad in omega arith
+pub first_bad_entry_takes : FirstBadIs (one 4) None → ⊥
+first_bad_entry_takes p = none-some 1 (p.there (one-there 4) ∙ ap found four_bad)
 
 -- no node held, and a node held that isn't one
 pub held_of_none : HeldOfIs (one 2) 0 → ⊥

@@ -1,9 +1,5 @@
-use Prim.Native.Nat.{◌-◌}
 use Rattle.entries.proofs.Checking.{HeldTo}
 use Rattle.entries.proofs.entries.held_of.Given as goal
 
 abbrev pub invariant-loop-e : goal.invariant-loop-e
 invariant-loop-e l = HeldTo l.pack l.e l.held
-
-abbrev pub decreases-loop-e : goal.decreases-loop-e
-decreases-loop-e l = l.p - l.e
