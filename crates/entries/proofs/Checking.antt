@@ -32,6 +32,9 @@ not_shorter pack h = ltb-false (length pack) (columns_at (count_in pack)) h
 pub entries_there : (pack : List ℕ) → is_shorter pack ≡ false → 8 + 8 * count_in pack ≤ length pack
 entries_there pack h = omega (arith, columns_begin (count_in pack), not_shorter pack h)
 
+pub header_there : (pack : List ℕ) → is_shorter pack ≡ false → 8 ≤ length pack
+header_there pack h = omega (arith, entries_there pack h)
+
 pub there_not_shorter : (pack : List ℕ) → columns_at (count_in pack) ≤ length pack → is_shorter pack ≡ false
 unfolding is_shorter
 there_not_shorter pack h = le-ltb (length pack) (columns_at (count_in pack)) h

@@ -7,6 +7,8 @@ use mathlib.Core.Bool.{Bool, true, false, true≢false}
 use mathlib.Core.List.{List, [], ◌∷◌}
 use Prim.Native.Nat.{ℕ}
 use native.Mathlib.Omega.{arith}
+use Rattle.std.specs.Prelude.{Option, None, Some}
+use Rattle.std.proofs.lemmas.Option.{none-some}
 use Rattle.entries.specs.Pack.{columns_at, entry_at}
 use Rattle.entries.specs.Parts.{number_at, total_in, offset_in}
 use Rattle.entries.specs.Refusal.{first_from, wrong_length}
@@ -21,7 +23,7 @@ wrong_total_settled pack start l a b p q = go (placeable_or pack start l)
     go (inl way) = p.placed way ∙ sym (q.placed way)
     go (inr out) = p.unplaced out ∙ sym (q.unplaced out)
 
-pub first_wrong_offset_settled : (pack : List ℕ) (start l x y : ℕ) → FirstWrongIs pack start l x → FirstWrongIs pack start l y → x ≡ y
+pub first_wrong_offset_settled : (pack : List ℕ) (start l : ℕ) (x y : Option ℕ) → FirstWrongIs pack start l x → FirstWrongIs pack start l y → x ≡ y
 first_wrong_offset_settled pack start l x y p q = go (placeable_or pack start l)
   where
     go : Placeable pack start l ⊎ (Placeable pack start l → ⊥) → x ≡ y
@@ -55,13 +57,13 @@ unfolding wrong_total_by total_in number_at
 wrong_total_takes p = true≢false (sym (p.placed (one_placed 21 16)))
 
 -- the offset 16 refused, and 17 taken
-pub first_wrong_offset_refuses : FirstWrongIs (one 20 16) 16 4 1 → ⊥
+pub first_wrong_offset_refuses : FirstWrongIs (one 20 16) 16 4 (Some 1) → ⊥
 unfolding first_from wrong_offset_by offset_in number_at entry_at
-first_wrong_offset_refuses p = let e : ◌≡◌ {A = ℕ} 1 0 = p.placed (one_placed 20 16) in omega arith
+first_wrong_offset_refuses p = none-some 1 (sym (p.placed (one_placed 20 16)))
 
-pub first_wrong_offset_takes : FirstWrongIs (one 20 17) 16 4 0 → ⊥
+pub first_wrong_offset_takes : FirstWrongIs (one 20 17) 16 4 None → ⊥
 unfolding first_from wrong_offset_by offset_in number_at entry_at
-first_wrong_offset_takes p = let e : ◌≡◌ {A = ℕ} 0 1 = p.placed (one_placed 20 17) in omega arith
+first_wrong_offset_takes p = none-some 1 (p.placed (one_placed 20 17))
 
 -- 20 bytes refused, and taken where the total is 19: an excess of one byte
 pub wrong_length_refuses : WrongLengthIs (one 20 16) true → ⊥

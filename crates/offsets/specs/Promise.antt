@@ -3,13 +3,13 @@
 --   wrong_total_by pack start l == the total isn't start + p × l
 --   wrong_offset_by pack start l e == the offset of entry e isn't start + e × l
 --   WrongTotalIs pack start l answer == `wrong_total`: whether the total is wrong; true where columns can't be placed so
---   FirstWrongIs pack start l e == `first_wrong_offset`: the first entry with a wrong offset, counted from 1, or 0; 1 where columns can't be placed so
+--   FirstWrongIs pack start l answer == `first_wrong_offset`: the first entry with a wrong offset, counted from 1, or none; 1 where columns can't be placed so
 --   WrongLengthIs pack answer == `wrong_length`: whether the input's length is wrong; true where the entries aren't there
 -- Where `start` is 8 + 8 × p and l as the rules have it, these are `wrong_total` and `first_wrong_offset` of the refusals (`Placing` of this crate's proofs).
-use Rattle.std.specs.Prelude.{◌≡◌, Bool, true, false, not, List, ℕ, ◌+◌, ◌*◌, ◌≤◌, eqb}
+use Rattle.std.specs.Prelude.{◌≡◌, Bool, true, false, not, List, Option, Some, ℕ, ◌+◌, ◌*◌, ◌≤◌, eqb}
 use Rattle.entries.specs.Parts.{count_in, total_in, offset_in}
 use Rattle.entries.specs.Refusal.{first_from, wrong_length}
-use Rattle.entries.specs.Promise.{is_shorter}
+use Rattle.entries.specs.Promise.{is_shorter, found}
 
 pub record Placeable (pack : List ℕ) (start l : ℕ) : Type 0 where
   pub there : is_shorter pack ≡ false
@@ -26,9 +26,9 @@ pub record WrongTotalIs (pack : List ℕ) (start l : ℕ) (answer : Bool) : Type
   pub placed : Placeable pack start l → answer ≡ wrong_total_by pack start l
   pub unplaced : (Placeable pack start l → ⊥) → answer ≡ true
 
-pub record FirstWrongIs (pack : List ℕ) (start l e : ℕ) : Type 0 where
-  pub placed : Placeable pack start l → e ≡ first_from (wrong_offset_by pack start l) 0 (count_in pack)
-  pub unplaced : (Placeable pack start l → ⊥) → e ≡ 1
+pub record FirstWrongIs (pack : List ℕ) (start l : ℕ) (answer : Option ℕ) : Type 0 where
+  pub placed : Placeable pack start l → answer ≡ found (first_from (wrong_offset_by pack start l) 0 (count_in pack))
+  pub unplaced : (Placeable pack start l → ⊥) → answer ≡ Some 1
 
 pub record WrongLengthIs (pack : List ℕ) (answer : Bool) : Type 0 where
   pub there : is_shorter pack ≡ false → answer ≡ wrong_length pack

@@ -9,51 +9,38 @@ use entries::{ENTRY, HEADER, shorter};
 fn placeable(pack: &[u8], start: usize, l: usize) -> bool
     ensures { PlaceableIs pack.now start l result }
 {
-    if shorter(pack) {
-        return false;
-    }
-    if 2048 < start {
-        return false;
-    }
-    l <= 256
+    !shorter(pack) && start <= 2048 && l <= 256
 }
 
 // Is the total not start + p × l? The first column begins at `start`, each has l bytes. True where columns can't stand so.
+#[tactic(auto, using(entries::proofs::Checking::entries_there, entries::proofs::Checking::header_there), unfolding(crate::specs::Promise::wrong_total_by, entries::specs::Parts::total_in))]
 pub fn wrong_total(pack: &[u8], start: usize, l: usize) -> bool
     ensures { WrongTotalIs pack.now start l result }
 {
-    if !placeable(pack, start, l) {
-        return true;
-    }
-    let p = pack[2] as usize;
-    four_bytes(pack, 4) != start + p * l
+    !placeable(pack, start, l) || four_bytes(pack, 4) != start + usize::from(pack[2]) * l
 }
 
-// The first entry whose offset isn't where its column begins, counted from 1, or 0. The first column begins at `start`, each has l bytes. Where columns can't
-// stand so, the answer is 1.
-pub fn first_wrong_offset(pack: &[u8], start: usize, l: usize) -> usize
+// The first entry whose offset isn't where its column begins, counted from 1. The first column begins at `start`, each has l bytes. Where columns can't stand
+// so, the answer is 1.
+#[tactic(auto, using(entries::proofs::Checking::entries_there, entries::proofs::Checking::header_there), unfolding(crate::specs::Promise::wrong_offset_by, entries::specs::Parts::offset_in, entries::specs::Pack::entry_at))]
+pub fn first_wrong_offset(pack: &[u8], start: usize, l: usize) -> Option<usize>
     ensures { FirstWrongIs pack.now start l result }
 {
     if !placeable(pack, start, l) {
-        return 1;
+        return Some(1);
     }
-    let p = pack[2] as usize;
-    let mut e = 0;
-    while e < p {
+    for e in 0..usize::from(pack[2]) {
         if four_bytes(pack, HEADER + ENTRY * e + 4) != start + e * l {
-            return e + 1;
+            return Some(e + 1);
         }
-        e = e + 1;
     }
-    0
+    None
 }
 
 // Is the input's length not the total? True where the entries aren't there.
+#[tactic(auto, using(entries::proofs::Checking::entries_there, entries::proofs::Checking::header_there), unfolding(entries::specs::Refusal::wrong_length, entries::specs::Parts::total_in))]
 pub fn wrong_length(pack: &[u8]) -> bool
     ensures { WrongLengthIs pack.now result }
 {
-    if shorter(pack) {
-        return true;
-    }
-    pack.len() != four_bytes(pack, 4)
+    shorter(pack) || pack.len() != four_bytes(pack, 4)
 }
