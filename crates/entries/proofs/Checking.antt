@@ -55,9 +55,6 @@ first-none {pack} None is h = go (is_shorter pack) refl
 pub is-formed : {held : ℕ} (pack : List ℕ) → EntriesGood pack → HeldIs pack held → HeldOfIs pack held
 is-formed pack way is = record { formed = λ w. is; unformed = λ out. absurd (out way) }
 
-pub not_formed : (pack : List ℕ) → (EntriesGood pack → ⊥) → HeldOfIs pack 0
-not_formed pack out = record { formed = λ way. absurd (out way); unformed = λ w. refl }
-
 pub good_at : (pack : List ℕ) → EntriesGood pack → (e : ℕ) → e < count_in pack → GoodEntry pack e
 unfolding first_bad_entry
 good_at pack way e h = entry-good pack e (none_from (bad_entry pack) 0 (count_in pack) way.good e (omega arith) (omega arith))

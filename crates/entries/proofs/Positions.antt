@@ -19,10 +19,6 @@ use Rattle.rules.specs.Shape.{rows}
 use Rattle.entries.specs.Pack.{four_bytes, columns_at, offset_of, total_of, header, entry, entries_from, packed_nodes, entry_at}
 use Rattle.entries.specs.Parts.{byte_at, number_at, node_in}
 
-pub entry_begins : (e : ℕ) → entry_at e ≡ 8 + 8 * e
-unfolding entry_at
-entry_begins e = refl
-
 pub columns_begin : (p : ℕ) → columns_at p ≡ 8 + 8 * p
 unfolding columns_at entry_at
 columns_begin p = refl

@@ -21,8 +21,9 @@ use Rattle.rules.specs.Refusal.{shape_refusal}
 use Rattle.rules.specs.Bench.{shape}
 use Rattle.rules.proofs.Accepted.{bounds}
 use Rattle.layout.specs.declared.answers.Found.{Found}
-use Rattle.layout.specs.declared.answers.Layout.{Layout}
-use Rattle.layout.specs.declared.answers.Layout.TheVariants.{Accepted, Refused}
+use Rattle.std.specs.Prelude.{Result, Ok, Err}
+use Rattle.rules.specs.declared.refusals.Refusal.{Refusal}
+use Rattle.rules.specs.Refusal.{number_of}
 use Rattle.entries.specs.Pack.{nodes_of, columns_at, total_of, packed_nodes, packed, largest_pack, input_most, entry_at}
 use Rattle.entries.specs.Parts.{shape_in, count_in, node_in, nodes_in}
 use Rattle.entries.specs.Refusal.{layout_refusal}
@@ -151,13 +152,13 @@ module _ (sh : Shape) (held : ℕ) (columns pack : List ℕ) where
   }
 
 -- where there is a content, it is the answer
-pub content-answered : (pack : List ℕ) (answer : Layout) (found : Found) → LayoutMeets pack answer → LayoutIs pack found → answer ≡ Accepted found
-content-answered pack (Accepted x) found m is = ap Accepted (layout_only pack x found (m.finds x refl) is)
-content-answered pack (Refused q) found m is = absurd (some-ne-none q (m.answered ∙ found-accepted pack found is))
+pub content-answered : (pack : List ℕ) (answer : Result Found Refusal) (found : Found) → LayoutMeets pack answer → LayoutIs pack found → answer ≡ Ok found
+content-answered pack (Ok x) found m is = ap Ok (layout_only pack x found (m.finds x refl) is)
+content-answered pack (Err q) found m is = absurd (some-ne-none (number_of q) (m.answered ∙ found-accepted pack found is))
 
 -- "reading the layout is accepted with a shape, a set and columns exactly when the input is `packed` of them"
-pub layout_exactly : (pack : List ℕ) (answer : Layout) → LayoutMeets pack answer → (sh : Shape) (held : ℕ) (columns : List ℕ)
-    → ((answer ≡ Accepted (found_in sh held)) × (drop (columns_at (length (nodes_of sh held))) pack ≡ columns)) ↔ IsPack sh held columns pack
+pub layout_exactly : (pack : List ℕ) (answer : Result Found Refusal) → LayoutMeets pack answer → (sh : Shape) (held : ℕ) (columns : List ℕ)
+    → ((answer ≡ Ok (found_in sh held)) × (drop (columns_at (length (nodes_of sh held))) pack ≡ columns)) ↔ IsPack sh held columns pack
 layout_exactly pack answer m sh held columns = (
   λ h. layout→pack sh held columns pack (m.finds (found_in sh held) h.0) h.1,
   λ p. (content-answered pack answer (found_in sh held) m (pack→layout sh held columns pack p), pack-columns sh held columns pack p),

@@ -14,11 +14,13 @@ use Rattle.rules.specs.declared.shapes.Shape.{Shape}
 use Rattle.rules.specs.Shape.{rows}
 use Rattle.rules.specs.Refusal.{shape_refusal}
 use Rattle.rules.proofs.Checks.{not_other, none-given}
-use Rattle.rules.proofs.Accepted.{Bounds, is-accepted, not_refused}
+use Rattle.rules.proofs.Accepted.{Bounds, bounds, is-accepted, not_refused}
 use Rattle.entries.specs.Pack.{header_length, entry_at, columns_at, offset_of, total_of, largest_pack}
 use Rattle.entries.specs.Parts.{byte_at, shape_in, count_in, total_in, node_in, offset_in, node_before, nodes_in}
 use Rattle.entries.specs.Refusal.{bad_entry, first_bad_entry, wrong_total, wrong_offset, first_wrong_offset, wrong_length}
 use Rattle.entries.specs.Refusal.{layout_checks, layout_refusal}
+use Rattle.entries.specs.Promise.{EntriesGood}
+use Rattle.entries.proofs.Checking.{there_not_shorter}
 use Rattle.entries.proofs.Sets.{Rises}
 use Rattle.entries.proofs.Positions.{Stands}
 use Rattle.entries.proofs.Good.{none_from, from_none, GoodEntry, entry-good, good-entry, padding_zero, zero_padding, nodes_in_length, nodes_in_at}
@@ -62,6 +64,14 @@ taken-entries pack t = from_none (bad_entry pack) 0 (count_in pack) (λ e k l. g
 taken-offsets : (pack : List ℕ) → LayoutTaken pack → first_wrong_offset pack ≡ 0
 unfolding first_wrong_offset wrong_offset
 taken-offsets pack t = from_none (wrong_offset pack) 0 (count_in pack) (λ e k l. ap not (eq-eqb _ _ (t.offsets e (omega arith))))
+
+-- the entries are good
+pub taken-good : (pack : List ℕ) → LayoutTaken pack → EntriesGood pack
+taken-good pack t = record {
+  there = there_not_shorter pack t.there;
+  nodes = (bounds (shape_in pack) t.taken).n-most;
+  good = taken-entries pack t;
+}
 
 pub taken→layout : (pack : List ℕ) → LayoutTaken pack → layout_refusal pack ≡ none
 unfolding layout_refusal wrong_total wrong_length

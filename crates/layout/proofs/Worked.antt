@@ -10,8 +10,8 @@ use Rattle.rules.specs.Lost.{is_lost, bit_above}
 use Rattle.rules.specs.Refusal.{shape_refusal}
 use Rattle.rules.specs.Bench.{shape}
 use Rattle.layout.specs.declared.answers.Found.{Found}
-use Rattle.layout.specs.declared.answers.Layout.{Layout}
-use Rattle.layout.specs.declared.answers.Layout.TheVariants.{Accepted}
+use Rattle.std.specs.Prelude.{Result, Ok}
+use Rattle.rules.specs.declared.refusals.Refusal.{Refusal}
 use Rattle.entries.specs.Pack.{nodes_of, four_bytes, columns_at, offset_of, total_of, header, entry, entries_from, packed_nodes, packed, entry_at}
 use Rattle.layout.specs.Promise.{LayoutIs, LayoutMeets}
 use Rattle.layout.proofs.Packs.{found_in, layout_only, IsPack, pack→layout, content-answered}
@@ -34,8 +34,8 @@ worked-pack = record { taken = refl; inside = refl; exact = refl; is = refl }
 pub worked_layout : LayoutIs worked (found_in (shape 3 2) 5)
 worked_layout = pack→layout (shape 3 2) 5 worked_columns worked worked-pack
 
-pub worked-accepted : (answer : Layout) → LayoutMeets worked answer → answer ≡ Accepted (found_in (shape 3 2) 5)
+pub worked-accepted : (answer : Result Found Refusal) → LayoutMeets worked answer → answer ≡ Ok (found_in (shape 3 2) 5)
 worked-accepted answer m = content-answered worked answer (found_in (shape 3 2) 5) m worked_layout
 
-pub worked-found : (found : Found) → LayoutMeets worked (Accepted found) → found ≡ found_in (shape 3 2) 5
+pub worked-found : (found : Found) → LayoutMeets worked (Ok found) → found ≡ found_in (shape 3 2) 5
 worked-found found m = layout_only worked found (found_in (shape 3 2) 5) (m.finds found refl) worked_layout

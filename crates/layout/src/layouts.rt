@@ -1,51 +1,42 @@
 // Reading the layout of a pack: all checks but whether its columns can be filled.
 ghost use Rattle.layout.specs.Promise.{LayoutMeets};
 
-use crate::answers::{Found, Layout};
-use entries::{ENTRY, HEADER, first_bad_entry, held_of};
+use crate::answers::Found;
+use entries::{ENTRY, HEADER, first_bad_entry, held_of, shorter};
 use offsets::{first_wrong_offset, wrong_length, wrong_total};
-use rules::{Shape, measure};
+use rules::{Refusal, Shape, measure};
 
 // How long the largest pack is: a header, sixteen entries, sixteen columns of 256 bytes.
 pub const LARGEST_PACK: usize = 4232;
 
 // The shape and the nodes that a pack holds, and where its columns begin.
-pub fn read_layout(pack: &[u8]) -> Layout
+#[tactic(auto, using(crate::proofs::Checking::total_right, crate::proofs::Checking::offsets_right), unfolding(entries::specs::Refusal::layout_refusal, rules::specs::Refusal::shape_refusal, entries::specs::Promise::is_shorter))]
+pub fn read_layout(pack: &[u8]) -> Result<Found, Refusal>
     ensures { LayoutMeets pack.now result }
 {
-    if pack.len() < HEADER {
-        return Layout::Refused(6);
-    }
-    let n = pack[0] as usize;
-    let r = pack[1] as usize;
-    let p = pack[2] as usize;
-    let zero = pack[3];
-    if zero != 0 {
-        return Layout::Refused(6);
-    }
-    let shape = Shape::new(n, r);
-    let Ok(z) = measure(shape) else {
-        return Layout::Refused(1);
+    let &[n, r, p, zero, _, _, _, _, ..] = pack else {
+        return Err(Refusal::BadHeader);
     };
-    if n < p {
-        return Layout::Refused(6);
+    if zero != 0 {
+        return Err(Refusal::BadHeader);
     }
-    let start = HEADER + ENTRY * p;
-    if pack.len() < start {
-        return Layout::Refused(6);
+    let shape = Shape::new(usize::from(n), usize::from(r));
+    let Ok(z) = measure(shape) else {
+        return Err(Refusal::BadShape);
+    };
+    if n < p || shorter(pack) {
+        return Err(Refusal::BadHeader);
     }
-    if first_bad_entry(pack) != 0 {
-        return Layout::Refused(7);
+    if first_bad_entry(pack).is_some() {
+        return Err(Refusal::BadEntry);
     }
-    if wrong_total(pack, start, z.l) {
-        return Layout::Refused(8);
-    }
-    if first_wrong_offset(pack, start, z.l) != 0 {
-        return Layout::Refused(8);
-    }
-    if wrong_length(pack) {
-        return Layout::Refused(8);
+    let start = HEADER + ENTRY * usize::from(p);
+    if wrong_total(pack, start, z.l)
+        || first_wrong_offset(pack, start, z.l).is_some()
+        || wrong_length(pack)
+    {
+        return Err(Refusal::BadLayout);
     }
     let held = held_of(pack);
-    Layout::Accepted(Found { shape, held, start })
+    Ok(Found { shape, held, start })
 }

@@ -7,8 +7,8 @@
 mod answers;
 mod layouts;
 
-// What reading the layout answers.
-pub use answers::{Found, Layout};
+// What reading the layout finds.
+pub use answers::Found;
 
 // Shape, held set and columns of a pack: all checks but whether they can be filled.
 pub use layouts::read_layout;

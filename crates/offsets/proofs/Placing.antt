@@ -1,4 +1,4 @@
--- Where columns are to stand. In order: offsets right and wrong; columns can be placed, or they can't; what is promised, in the words of the refusals.
+-- Where columns are to stand. In order: a wrong offset; columns can be placed, or they can't; what is promised, in the words of the refusals.
 use mathlib.Core.Path.{◌≡◌, refl, sym, ap₂, ◌∙◌}
 use mathlib.Core.Logic.{◌⊎◌, inl, inr}
 use mathlib.Core.Bool.{Bool, true, false, not, true≢false}
@@ -6,7 +6,7 @@ use mathlib.Core.List.{List}
 use Prim.Native.Nat.{ℕ, ◌+◌, ◌*◌}
 use native.Mathlib.Omega.{arith}
 use lib.Dec.{ltb, eqb}
-use borrow.Author.Tests.{ltb-true, ltb-false, eq-eqb, ne_eqb}
+use borrow.Author.Tests.{ltb-true, ltb-false, ne_eqb}
 use Rattle.rules.specs.Shape.{rows}
 use Rattle.entries.specs.Pack.{columns_at, offset_of, total_of}
 use Rattle.entries.specs.Parts.{shape_in, count_in, total_in, offset_in}
@@ -19,10 +19,6 @@ module _ (pack : List ℕ) (start l : ℕ) where
   pub offset_wrong : (e : ℕ) → (offset_in pack e ≡ start + e * l → ⊥) → wrong_offset_by pack start l e ≡ true
   unfolding wrong_offset_by
   offset_wrong e h = simp (ne_eqb (offset_in pack e) (start + e * l) h)
-
-  pub offset_right : (e : ℕ) → offset_in pack e ≡ start + e * l → wrong_offset_by pack start l e ≡ false
-  unfolding wrong_offset_by
-  offset_right e h = simp (eq-eqb (offset_in pack e) (start + e * l) h)
 
   pub placeable_or : Placeable pack start l ⊎ (Placeable pack start l → ⊥)
   placeable_or = go (is_shorter pack) (ltb 2048 start) (ltb 256 l) refl refl refl
