@@ -1,23 +1,10 @@
 -- `scores_of` meets its contract: the scores of the rows below a are written, and 0 stands from there on.
-use mathlib.Core.Path.{refl, ◌∙◌}
+use mathlib.Core.Path.{◌∙◌}
 use native.Mathlib.Omega.{arith}
-use Rattle.rules.proofs.Measures.{measured-sizes, measured-refused, refused_not_accepted}
-use Rattle.columns.proofs.Kernels.{written_start, written_step}
+use Rattle.rules.proofs.Measures.{measured-sizes, refused_not_accepted}
 use Rattle.columns.proofs.Parts.{zeros-at}
 use Rattle.choices.proofs.scoring.scores_of.Goals as goal
 use Rattle.choices.proofs.scoring.scores_of.Goals.{In-Ok}
-
-pub returns-in_default : goal.returns-in_default
-returns-in_default c = record {
-  inside = λ taken. absurd (refused_not_accepted _ 1 (measured-refused _ c.measure.ensures c.in_default.is) taken);
-  outside = λ refused. refl;
-}
-
-pub loop-a-init : goal.loop-a-init
-loop-a-init c = written_start _ _
-
-pub loop-a-preserved : goal.loop-a-preserved
-loop-a-preserved c = written_step c.loop-a.invariant _ (omega arith) c.score_of.ensures
 
 -- in the shape's sizes
 pub returns : goal.returns

@@ -1,19 +1,13 @@
 -- `Lost::correct_levels` meets its contract. The invariant: the levels below `level` are done. A level is done by corrections, or because no row has it.
-use mathlib.Core.Path.{sym, subst, ◌∙◌}
+use mathlib.Core.Path.{sym, subst}
 use Prim.Native.Nat.{◌+◌}
 use native.Mathlib.Omega.{arith}
 use lib.ListN.{take}
 use Rattle.choices.specs.Promise.{AnyIs}
 use Rattle.levels.proofs.Losses.{fits}
-use Rattle.levels.proofs.Steps.{LevelsDone, done_start, done-corrected, done_none, done_all}
+use Rattle.levels.proofs.Steps.{LevelsDone, done-corrected, done_none, done_all}
 use Rattle.levels.proofs.level.Lost.correct_levels.Goals as goal
 use Rattle.levels.proofs.level.Lost.correct_levels.Goals.{then-any_at, else-any_at}
-
-pub loop-level-init : goal.loop-level-init
-loop-level-init c = let lost = c.args.self.now in done_start lost.z.shape (fits lost) lost.flags lost.count c.args.stripe.now
-
-pub correct_level-requires : goal.correct_level-requires
-correct_level-requires c = c.loop-level.invariant.0 ∙ c.requires
 
 pub loop-level-preserved : goal.loop-level-preserved
 loop-level-preserved c =

@@ -5,22 +5,13 @@ use lib.ListN.{length, get_or}
 use Rattle.columns.proofs.Kernels.{column-within}
 use Rattle.columns.proofs.Parts.{parts_as_long}
 use Rattle.yebarg.proofs.Lists.{copied-whole}
-use Rattle.levels.proofs.Losses.{lists, nodes-most, node-within}
-use Rattle.levels.proofs.Placements.{placed_start, placed-step}
+use Rattle.levels.proofs.Losses.{lists, node-within}
+use Rattle.levels.proofs.Placements.{placed-step}
 use Rattle.levels.proofs.level.Lost.place.Goals as goal
 use Rattle.levels.proofs.level.Lost.place.Goals.{In-loop-j}
 
-pub loop-j-init : goal.loop-j-init
-loop-j-init c = placed_start _ _ _ _
-
 within : (c : In-loop-j) → get_or c.args.self.now.nodes c.loop-j.j 0 * c.args.self.now.z.l + c.args.self.now.z.l ≤ length c.loop-j.to
 within c = omega (arith, node-within c.args.self.now c.loop-j.j c.loop-j-test.true)
-
-pub overflow_mul-start : goal.overflow_mul-start
-overflow_mul-start c = record { fits = omega (arith, within (goal.at.overflow_mul-start c).In-loop-j, nodes-most c.args.self.now) }
-
-pub overflow_add-stop : goal.overflow_add-stop
-overflow_add-stop c = record { fits = omega (arith, within (goal.at.overflow_add-stop c).In-loop-j, nodes-most c.args.self.now) }
 
 pub slice_bounds-copy-end-in-loop-j : goal.slice_bounds-copy-end-in-loop-j
 slice_bounds-copy-end-in-loop-j c = within (goal.at.slice_bounds-copy-end-in-loop-j c).In-loop-j
