@@ -1,8 +1,8 @@
 -- Loops over columns of length l that stand end to end in a buffer; a turn may write one of them. In order: columns written from
--- the front: none yet, one more, one left as it was; each is within the buffer.
+-- the front: one more, one left as it was; each is within the buffer.
 --   ColumnsTo new l i before later == the columns below i hold what `new` gives, those from i on are as they were
 -- Assumes nothing.
-use mathlib.Core.Path.{◌≡◌, refl, ◌∙◌}
+use mathlib.Core.Path.{◌≡◌, ◌∙◌}
 use mathlib.Core.List.{List}
 use mathlib.Core.Logic.{◌⊎◌, inl, inr}
 use Prim.Native.Nat.{ℕ, ◌+◌, ◌-◌, ◌*◌, ◌<◌, ◌≤◌}
@@ -17,9 +17,6 @@ pub record ColumnsTo (new : ℕ → ℕ → ℕ) (l i : ℕ) (before later : Lis
   pub same_length : length later ≡ length before
   pub done : (j a : ℕ) → j < i → a < l → get_or later (j * l + a) 0 ≡ new j a
   pub kept : (j a : ℕ) → i ≤ j → a < l → get_or later (j * l + a) 0 ≡ get_or before (j * l + a) 0
-
-pub columns_start : (new : ℕ → ℕ → ℕ) (l : ℕ) (before : List ℕ) → ColumnsTo new l 0 before before
-columns_start new l before = record { same_length = refl; done = λ j a h k. absurd (omega (arith, h)); kept = λ j a h k. refl }
 
 module _ (new : ℕ → ℕ → ℕ) (l i : ℕ) (before xs : List ℕ) (was : ColumnsTo new l i before xs) where
   -- column i is lent, and comes back as ys

@@ -28,7 +28,7 @@ laid-over rec stripe end h =
     ∙ ap (λ j. drop j stripe) (add-sub_of_le h))
     ∙ sym (append_assoc rec (replicate (end - length rec) 0) (drop end stripe))
 
-pub laid-over-all : (from to : List ℕ) → length to ≡ length from → take (length from) from ++ drop (length from) to ≡ from
+laid-over-all : (from to : List ℕ) → length to ≡ length from → take (length from) from ++ drop (length from) to ≡ from
 laid-over-all from to e =
     ap₂ (λ (x y : List ℕ). x ++ y) (take-length from) (ap (λ n. drop n to) (sym e) ∙ drop-length to) ∙ append-nil from
 
