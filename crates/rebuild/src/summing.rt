@@ -18,7 +18,7 @@ fn helper_before(failed: usize, i: usize) -> usize
 }
 
 // What all nodes but the failed one give, end to end in rising node order.
-#[derive(Clone, Copy)]
+#[derive(Clone, Copy, Debug, PartialEq, Eq)]
 pub struct Given<'a> {
     pub z: Sizes,
     pub failed: usize,
