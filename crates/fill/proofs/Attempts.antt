@@ -1,7 +1,7 @@
 -- One stripe filled in scratch: what the scratch says of the lent stripe. In order: the chosen nodes as a set of document 01's nodes; the scratch has the
 -- survivors; it fills by as many equations as nodes are chosen; where it meets all r it is what is written, and where it doesn't nothing fills the stripe.
 use mathlib.Core.Path.{◌≡◌, refl, sym, ap, subst, ◌∙◌}
-use mathlib.Core.Bool.{Bool, true, false, not, cond, true≢false}
+use mathlib.Core.Bool.{Bool, true, false, not, cond}
 use mathlib.Core.List.{List}
 use mathlib.Core.Logic.{◌⊎◌, inl, inr}
 use Prim.Native.Nat.{ℕ, suc, ◌+◌, ◌-◌, ◌*◌, ◌<◌, ◌≤◌}
@@ -14,6 +14,9 @@ use Rattle.theory.specs.Whole.{Whole, Same, AgreeOff, Fills}
 use Rattle.theory.proofs.Counts.{count-beyond}
 use Rattle.theory.proofs.Filling.{fewer_equations}
 use Rattle.field.proofs.Numbers.{number}
+use mathlib.Core.Option.{none-ne-some, some-ne-none, some-injective}
+use Rattle.std.specs.Prelude.{Ok, Err}
+use Rattle.rules.specs.declared.refusals.Refusal.TheVariants.{NoWholeStripe}
 use Rattle.rules.specs.declared.shapes.Shape.{Shape}
 use Rattle.rules.specs.Shape.{groups, group_size}
 use Rattle.rules.specs.Shape as shapes
@@ -79,19 +82,19 @@ module _ (sh : Shape) (b : Bounds sh) (flags : List Bool) (none : NoneFrom sh.n 
     stands-whole (inl e) = whole-at-r e
     stands-whole (inr w) = w
 
-    pub written-fills : (answer : Bool) → answer ≡ true → Standing sh k full answer → (later : List ℕ) → IsBytes (stripe_length sh) list → IsBytes (stripe_length sh) later
-        → Copied flags sh.n (shapes.rows sh) full list later → FilledOne sh flags k list answer later
+    pub written-fills : {b : Bool} → b ≡ true → Standing sh k full b → (later : List ℕ) → IsBytes (stripe_length sh) list → IsBytes (stripe_length sh) later
+        → Copied flags sh.n (shapes.rows sh) full list later → FilledOne sh flags k list (Ok tt) later
     unfolding shapes.rows
-    written-fills answer taken stands later bl bw copied = record {
+    written-fills taken stands later bl bw copied = record {
       fills = λ e.
           fills→filled sh b set list later bl bw (stripe sh (symbol sh full)) same
           (record {
             whole = (whole_tie sh b full).0 (stands-whole (stands.stands taken));
             kept = λ i a il al out. fills.kept i a il al (sym (real-chosen sh flags none i) ∙ out);
           });
-      none-fills = λ e. absurd (true≢false (sym taken ∙ e));
-      kept = λ e. absurd (true≢false (sym taken ∙ e));
-      always = λ e. taken;
+      none-fills = λ q e. absurd (none-ne-some q e);
+      kept = λ q e. absurd (none-ne-some q e);
+      always = λ e. refl;
     }
       where
         same : Same (code sh) (stripe sh (symbol sh full)) (stripe sh (symbol sh later))
@@ -106,11 +109,11 @@ module _ (sh : Shape) (b : Bounds sh) (flags : List Bool) (none : NoneFrom sh.n 
             go false e =
                 sym (fills.kept i a il al e) ∙ ap number (all-nodes list later i a (λ h. same_byte list later i a h (sym (byte false e h))))
 
-    pub unwritten_unfilled : (answer : Bool) → answer ≡ false → Standing sh k full answer → FilledOne sh flags k list answer list
-    unwritten_unfilled answer left stands = record {
-      fills = λ e. absurd (true≢false (sym e ∙ left));
-      none-fills = λ e other w. stands.falls left (met other w);
-      kept = λ e. refl;
+    pub unwritten_unfilled : {b : Bool} → b ≡ false → Standing sh k full b → FilledOne sh flags k list (Err NoWholeStripe) list
+    unwritten_unfilled left stands = record {
+      fills = λ e. absurd (some-ne-none 5 e);
+      none-fills = λ q e. (sym (some-injective _ _ e), λ other w. stands.falls left (met other w));
+      kept = λ q e. refl;
       always = λ e. absurd (stands.falls left (whole-at-r e));
     }
       where

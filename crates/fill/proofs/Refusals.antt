@@ -1,73 +1,50 @@
--- From what the tests of an entry find to the refusal that it gives, and what it owes then. In order: `fill`, `fill_parity`; a refusal that keeps the stripe.
-use mathlib.Core.Path.{◌≡◌, refl, sym, ◌∙◌}
+-- What the entries owe. In order: refusal 4 of `fill`; `fill_parity` past its tests, from what `fill_one` answers.
+use mathlib.Core.Path.{◌≡◌, sym, ap, ◌∙◌}
+use mathlib.Core.Bool.{Bool, ◌&&◌, and-true}
 use mathlib.Core.List.{List}
-use mathlib.Core.Option.{none, some, none-ne-some, some-ne-none, some-injective}
-use Prim.Native.Nat.{ℕ, ◌/◌, ◌^◌, ◌<◌}
+use mathlib.Core.Option.{none, some, none-ne-some}
+use Prim.Native.Nat.{ℕ, ◌-◌, ◌/◌, ◌^◌, ◌<◌, ◌≤◌}
+use native.Mathlib.Omega.{arith}
+use lib.Dec.{ltb, leb}
 use lib.ListN.{length}
-use borrow.Author.Tests.{lt-ltb, eq-eqb, ne_eqb}
+use borrow.Author.Tests.{lt-ltb, eq-eqb, le-leb}
+use Rattle.std.specs.Prelude.{Result}
+use Rattle.rules.specs.declared.refusals.Refusal.{Refusal}
 use Rattle.rules.specs.declared.shapes.Shape.{Shape}
+use Rattle.rules.specs.Shape.{data_nodes}
 use Rattle.rules.specs.Stripe.{stripe_length}
-use Rattle.rules.specs.Lost.{is_lost, is_parity, lost_count, bit_above, Filled}
+use Rattle.rules.specs.Lost.{is_parity, lost_count, bit_above}
 use Rattle.rules.specs.Refusal.{shape_refusal}
-use Rattle.rules.proofs.Accepted.{is-accepted, is-refused}
-use Rattle.yebarg.specs.declared.answers.Outcome.TheVariants.{Done, Refused}
+use Rattle.rules.proofs.Accepted.{is-accepted}
+use Rattle.rules.proofs.Fillings.{filled-same-set}
+use Rattle.corrections.specs.Correction.{chosen}
+use Rattle.lost.specs.Promise.{FlagsAre}
 use Rattle.fill.specs.Refusal.{fill_refusal, parity_refusal}
-use Rattle.fill.specs.Promise.{FillMeets, ParityMeets}
+use Rattle.fill.specs.Promise.{ParityMeets}
+use Rattle.fill.specs.Kernel.{FilledOne}
 
-module _ (sh : Shape) (lost : ℕ) (stripe : List ℕ) where
-  pub fill-shape : shape_refusal sh ≡ some 1 → fill_refusal sh lost stripe ≡ some 1
-  unfolding fill_refusal
-  fill-shape h = simp (is-refused sh 1 h).0
+pub fill-many : (sh : Shape) (lost : ℕ) (stripe : List ℕ) → shape_refusal sh ≡ none → length stripe ≡ stripe_length sh → lost / 2 ^ sh.n ≡ 0
+    → sh.r < lost_count lost → fill_refusal sh lost stripe ≡ some 4
+unfolding fill_refusal bit_above
+fill-many sh lost stripe h k b m =
+    simp (is-accepted sh h, eq-eqb (length stripe) (stripe_length sh) k, eq-eqb (lost / 2 ^ sh.n) 0 b, lt-ltb sh.r (lost_count lost) m)
 
-  pub fill-length : shape_refusal sh ≡ none → (length stripe ≡ stripe_length sh → ⊥) → fill_refusal sh lost stripe ≡ some 2
-  unfolding fill_refusal
-  fill-length h k = simp (is-accepted sh h, ne_eqb (length stripe) (stripe_length sh) k)
+-- up to node n, what comes after k is parity
+after-k : (sh : Shape) (i : ℕ) → i ≤ sh.n → (ltb (data_nodes sh) i && leb i sh.n) ≡ is_parity sh i
+unfolding is_parity
+after-k sh i h = simp (le-leb i sh.n h, and-true)
 
-  pub fill_bit : shape_refusal sh ≡ none → length stripe ≡ stripe_length sh → (lost / 2 ^ sh.n ≡ 0 → ⊥) → fill_refusal sh lost stripe ≡ some 3
-  unfolding fill_refusal bit_above
-  fill_bit h k b = simp (is-accepted sh h, eq-eqb (length stripe) (stripe_length sh) k, ne_eqb (lost / 2 ^ sh.n) 0 b)
-
-  pub fill-many : shape_refusal sh ≡ none → length stripe ≡ stripe_length sh → lost / 2 ^ sh.n ≡ 0 → sh.r < lost_count lost → fill_refusal sh lost stripe ≡ some 4
-  unfolding fill_refusal bit_above
-  fill-many h k b m =
-      simp (is-accepted sh h, eq-eqb (length stripe) (stripe_length sh) k, eq-eqb (lost / 2 ^ sh.n) 0 b, lt-ltb sh.r (lost_count lost) m)
-
-  pub fill-refused : {q : ℕ} → fill_refusal sh lost stripe ≡ some q → FillMeets sh lost stripe (Refused q) stripe
-  fill-refused {q} e = record {
-    refused = λ p h. sym e ∙ h;
-    filled = λ h k. absurd (none-ne-some q (sym h ∙ e));
-    unfillable = λ h p k. absurd (none-ne-some q (sym h ∙ e));
-    kept = λ p h. refl;
+module _ (sh : Shape) (stripe : List ℕ) {flags : List Bool} {count : ℕ} {answer : Result (Unit {0}) Refusal} {later : List ℕ} (few : sh.n ≤ 16)
+    (one : FilledOne sh flags count stripe answer later) where
+  pub parity-answered : FlagsAre (λ i. ltb (data_nodes sh) i && leb i sh.n) flags → count ≡ sh.r → parity_refusal sh stripe ≡ none
+      → ParityMeets sh stripe answer later
+  parity-answered are all passed = record {
+    answered = one.always all ∙ sym passed;
+    filled = λ h. filled-same-set _ _ _ _ _ same (one.fills (one.always all));
+    kept = λ q h. absurd (none-ne-some q (sym passed ∙ h));
   }
-
-  pub fill_done : {later : List ℕ} → fill_refusal sh lost stripe ≡ none → Filled sh (is_lost lost) stripe later → FillMeets sh lost stripe Done later
-  fill_done e w = record {
-    refused = λ p h. absurd (none-ne-some p (sym e ∙ h));
-    filled = λ h k. w;
-    unfillable = λ h p k. absurd (none-ne-some p k);
-    kept = λ p h. absurd (none-ne-some p h);
-  }
-
-  pub fill-unfillable : {later : List ℕ} → fill_refusal sh lost stripe ≡ none → ((other : List ℕ) → Filled sh (is_lost lost) stripe other → ⊥) → later ≡ stripe
-      → FillMeets sh lost stripe (Refused 5) later
-  fill-unfillable e none-fills same = record {
-    refused = λ p h. absurd (none-ne-some p (sym e ∙ h));
-    filled = λ h k. absurd (some-ne-none 5 k);
-    unfillable = λ h p k. (sym (some-injective _ _ k), none-fills);
-    kept = λ p h. same;
-  }
-
-module _ (sh : Shape) (stripe : List ℕ) where
-  pub parity-shape : shape_refusal sh ≡ some 1 → parity_refusal sh stripe ≡ some 1
-  unfolding parity_refusal
-  parity-shape h = simp (is-refused sh 1 h).0
-
-  pub parity-length : shape_refusal sh ≡ none → (length stripe ≡ stripe_length sh → ⊥) → parity_refusal sh stripe ≡ some 2
-  unfolding parity_refusal
-  parity-length h k = simp (is-accepted sh h, ne_eqb (length stripe) (stripe_length sh) k)
-
-  pub parity-refused : {q : ℕ} → parity_refusal sh stripe ≡ some q → ParityMeets sh stripe (Refused q) stripe
-  parity-refused {q} e = record { answered = sym e; filled = λ h. absurd (none-ne-some q (sym h ∙ e)); kept = λ p h. refl }
-
-  pub parity-done : {later : List ℕ} → parity_refusal sh stripe ≡ none → Filled sh (is_parity sh) stripe later → ParityMeets sh stripe Done later
-  parity-done e w = record { answered = sym e; filled = λ h. w; kept = λ p h. absurd (none-ne-some p (sym e ∙ h)) }
+    where
+      -- the nodes that the flags choose are the parity nodes
+      same : (i : ℕ) → 1 ≤ i → i ≤ sh.n → chosen flags (i - 1) ≡ is_parity sh i
+      same i h k =
+          are.each (i - 1) (omega (arith, few)) ∙ ap (λ j. ltb (data_nodes sh) j && leb j sh.n) (omega arith) ∙ after-k sh i k

@@ -14,13 +14,13 @@ use Rattle.rules.specs.declared.shapes.Shape.{Shape}
 use Rattle.rules.specs.Shape.{accepted}
 use Rattle.rules.specs.Stripe.{stripe_length}
 use Rattle.rules.specs.Lost.{is_lost, lost_count, bit_above, Filled}
-use Rattle.rules.specs.Refusal.{◌given-when◌, shape_refusal}
+use Rattle.rules.specs.Refusal.{◌given-when◌, refusal_of, shape_refusal}
 use Rattle.rules.proofs.Checks.{not_other, none-given, none_left}
 use Rattle.rules.proofs.Accepted.{bounds, is-accepted, not_refused}
 use Rattle.rules.proofs.LostSets.{lost_among, lost_among_lem}
 use Rattle.rules.proofs.Fillings.{filled-only}
-use Rattle.yebarg.specs.declared.answers.Outcome.{Outcome}
-use Rattle.yebarg.specs.Answer.{refusal}
+use Rattle.std.specs.Prelude.{Result}
+use Rattle.rules.specs.declared.refusals.Refusal.{Refusal}
 use Rattle.fill.specs.Refusal.{fill_refusal, parity_refusal}
 use Rattle.fill.specs.Promise.{FillMeets}
 
@@ -69,10 +69,10 @@ module _ (sh : Shape) (stripe : List ℕ) where
   taken→parity h k = simp (is-accepted sh h, eq-eqb (length stripe) (stripe_length sh) k)
 
 -- where one stripe is filled in, the answer is no refusal and that stripe is what is written
-pub fill-answers : (sh : Shape) (lost : ℕ) (stripe : List ℕ) (answer : Outcome) (later : List ℕ) → fill_refusal sh lost stripe ≡ none
-    → FillMeets sh lost stripe answer later → (other : List ℕ) → Filled sh (is_lost lost) stripe other → (refusal answer ≡ none) × (later ≡ other)
+pub fill-answers : (sh : Shape) (lost : ℕ) (stripe : List ℕ) (answer : Result (Unit {0}) Refusal) (later : List ℕ) → fill_refusal sh lost stripe ≡ none
+    → FillMeets sh lost stripe answer later → (other : List ℕ) → Filled sh (is_lost lost) stripe other → (refusal_of answer ≡ none) × (later ≡ other)
 fill-answers sh lost stripe answer later taken p other f =
-    let accepts = none_left (refusal answer) (λ q e. (p.unfillable taken q e).1 other f) in (
+    let accepts = none_left (refusal_of answer) (λ q e. (p.unfillable taken q e).1 other f) in (
       accepts,
       filled-only sh (bounds sh (fill-taken sh lost stripe taken).shape) (is_lost lost) (fill-few sh lost stripe taken) stripe later other
           (p.filled taken accepts) f,

@@ -1,67 +1,44 @@
 -- `fill::fill_in` meets its contract: the survivors are copied to scratch and the lost columns filled in there; where that stands they are copied to the
 -- stripe.
-use Rattle.std.proofs.Common.{◌≡◌, ℕ, List, Bool, length, ◌∙◌, sym, subst, arith}
-use Rattle.rules.specs.declared.shapes.Shape.{Shape}
-use Rattle.rules.specs.declared.shapes.Sizes.{Sizes}
-use Rattle.rules.specs.Shape.{rows}
-use Rattle.rules.specs.Stripe.{stripe_length, symbol}
-use Rattle.rules.specs.Promise.{SizesAre}
+use Rattle.std.proofs.Common.{◌∙◌, sym, ap, subst, is_ok, OnOk, Result}
+use Rattle.rules.specs.Stripe.{symbol}
 use Rattle.rules.proofs.Accepted.{bounds}
 use Rattle.rules.proofs.House.{code, stripe}
-use Rattle.rules.proofs.Lengths.{stripe-is}
-use Rattle.rules.proofs.Measures.{small}
+use Rattle.rules.specs.declared.refusals.Misfit.{Misfit}
+use Rattle.theory.specs.Set.{count}
 use Rattle.theory.specs.Whole.{AgreeOff}
 use Rattle.corrections.specs.Correction.{chosen}
 use Rattle.levels.specs.Promise.{LevelsCorrected}
-use Rattle.levels.proofs.Settled.{levels-true}
-use Rattle.lost.specs.Promise.{Copied, CopiedAre}
-use Rattle.lost.proofs.Settled.{copied-true}
+use Rattle.lost.specs.Promise.{Copied}
 use Rattle.fill.proofs.Attempts.{survivors, written-fills, unwritten_unfilled}
 use Rattle.fill.proofs.filling.fill_in.Goals as goal
-use Rattle.fill.proofs.filling.fill_in.Goals.{After-fill_levels, After-others_of-kept}
+use Rattle.fill.proofs.filling.fill_in.Goals.{After-stands, After-others_of-kept}
 
--- stripes can be copied, so they are
-copied : (sh : Shape) (z : Sizes) → SizesAre sh z → (flags : List Bool) (from before : List ℕ) {answer : Bool} {later : List ℕ}
-    → length from ≡ stripe_length sh → length before ≡ stripe_length sh
-    → CopiedAre flags z.shape.n z.l from before answer later → Copied flags sh.n (rows sh) from before later
-copied sh z h flags from before {answer} {later} ef eb p =
-    subst (λ n. Copied flags n (rows sh) from before later) h.n-is
-    (subst (λ l. Copied flags z.shape.n l from before later) h.l-is
-    (p.copied (copied-true _ _ _ _ _ _ _ p (record {
-      few = (small sh z h).n-most;
-      short = (small sh z h).l-most;
-      to_exact = eb ∙ sym (stripe-is sh z h);
-      from_exact = ef ∙ sym (stripe-is sh z h);
-    }))))
-
-levels : (c : After-fill_levels) → LevelsCorrected c.args.shape c.args.flags c.args.count c.copy_columns.new.to c.fill_levels.new.stripe
+levels : (c : After-stands) → LevelsCorrected c.args.z.shape c.args.flags c.args.count c.copy_columns.new.to c.fill_levels.new.stripe
 levels c =
-    subst (λ k. LevelsCorrected c.args.shape c.args.flags k c.copy_columns.new.to c.fill_levels.new.stripe) (sym c.requires.count_value.0)
-    (c.fill_levels.ensures.filled (levels-true _ _ _ _ _ c.fill_levels.ensures (record {
-      taken = c.requires.sizes_are.taken;
-      exact = c.copy_columns.auto.to ∙ c.requires.scratch_len;
-      none_above = c.requires.count_value.2;
-      few = omega (arith, c.requires.count_value.0, c.requires.count_value.1);
-    })))
+    subst (λ k. LevelsCorrected c.args.z.shape c.args.flags k c.copy_columns.new.to c.fill_levels.new.stripe) (sym c.requires.count_value.0)
+    (subst (λ (answer : Result (Unit {0}) Misfit). OnOk answer (LevelsCorrected c.args.z.shape c.args.flags (count c.args.z.shape.n (chosen c.args.flags)) c.copy_columns.new.to c.fill_levels.new.stripe))
+    c.unwrap-2.ensures c.fill_levels.ensures.filled)
 
-agrees : (c : After-fill_levels) → AgreeOff (code c.args.shape) (chosen c.args.flags) (stripe c.args.shape (symbol c.args.shape c.args.stripe.now))
-    (stripe c.args.shape (symbol c.args.shape c.copy_columns.new.to))
+agrees : (c : After-stands) → AgreeOff (code c.args.z.shape) (chosen c.args.flags) (stripe c.args.z.shape (symbol c.args.z.shape c.args.stripe.now))
+    (stripe c.args.z.shape (symbol c.args.z.shape c.copy_columns.new.to))
 agrees c =
-    survivors c.args.shape (bounds _ c.requires.sizes_are.taken) c.args.flags c.requires.count_value.2 _ _ _ _ c.others_of-kept.ensures
-    (copied c.args.shape c.args.z c.requires.sizes_are _ _ _ c.requires.stripe_len c.requires.scratch_len c.copy_columns.ensures)
+    survivors c.args.z.shape (bounds _ c.args.z.of_shape.taken) c.args.flags c.requires.count_value.2 _ _ _ _ c.others_of-kept.ensures
+    (subst (λ l. Copied c.others_of-kept.result c.args.z.shape.n l c.args.stripe.now c.args.scratch.now c.copy_columns.new.to) c.args.z.of_shape.l-is
+    (c.copy_columns.ensures.copied (ap is_ok c.unwrap.ensures)))
 
-pub returns-then-accepted : goal.returns-then-accepted
-returns-then-accepted c =
-    let g = goal.at.returns-then-accepted c in
-    let written = copied c.args.shape c.args.z c.requires.sizes_are _ _ _ (c.fill_levels.auto.stripe ∙ c.copy_columns.auto.to ∙ c.requires.scratch_len) c.requires.stripe_len c.copy_columns-then-accepted.ensures in
-    written-fills c.args.shape (bounds _ c.requires.sizes_are.taken) c.args.flags c.requires.count_value.2 c.args.count c.requires.count_value.0 c.requires.count_value.1
-    _ _ _ (agrees g.After-fill_levels) (levels g.After-fill_levels) c.stands-accepted.result c.if-accepted.true c.stands-accepted.ensures _
+pub returns-then-not-stands : goal.returns-then-not-stands
+returns-then-not-stands c =
+    let g = (goal.at.returns-then-not-stands c).After-stands in
+    unwritten_unfilled c.args.z.shape (bounds _ c.args.z.of_shape.taken) c.args.flags c.requires.count_value.2 c.args.count c.requires.count_value.0 c.requires.count_value.1
+    _ _ _ (agrees g) (levels g) c.if-not-stands.true c.stands.ensures
+
+pub returns : goal.returns
+returns c =
+    let g = goal.at.returns c in
+    written-fills c.args.z.shape (bounds _ c.args.z.of_shape.taken) c.args.flags c.requires.count_value.2 c.args.count c.requires.count_value.0 c.requires.count_value.1
+    _ _ _ (agrees g.After-stands) (levels g.After-stands) c.if-not-stands.false c.stands.ensures _
     (record { exact = c.requires.stripe_len; bytes = λ k h. (g.After-others_of-kept.type_inv.stripe k).fits })
-    (record { exact = c.copy_columns-then-accepted.auto.to ∙ c.requires.stripe_len; bytes = λ k h. (c.type_inv.stripe k).fits })
-    written
-
-pub returns-else-accepted : goal.returns-else-accepted
-returns-else-accepted c =
-    let g = goal.at.returns-else-accepted c in
-    unwritten_unfilled c.args.shape (bounds _ c.requires.sizes_are.taken) c.args.flags c.requires.count_value.2 c.args.count c.requires.count_value.0 c.requires.count_value.1
-    _ _ _ (agrees g.After-fill_levels) (levels g.After-fill_levels) c.stands-accepted.result c.if-accepted.false c.stands-accepted.ensures
+    (record { exact = c.copy_columns-2.auto.to ∙ c.requires.stripe_len; bytes = λ k h. (c.type_inv.stripe k).fits })
+    (subst (λ l. Copied c.args.flags c.args.z.shape.n l c.fill_levels.new.stripe c.args.stripe.now c.copy_columns-2.new.to) c.args.z.of_shape.l-is
+    (c.copy_columns-2.ensures.copied (ap is_ok c.unwrap-3.ensures)))
