@@ -34,9 +34,8 @@ use Rattle.rules.specs.Shape.{group_size, groups, rows, digit, with_digit}
 use Rattle.rules.specs.Point.{point_of, γ}
 use Rattle.rules.specs.Stripe.{Symbols, symbol}
 use Rattle.rules.specs.Equation.{equation}
-use Rattle.rules.specs.Promise.{SizesAre}
-use Rattle.rules.proofs.Accepted.{Bounds, bounds, nodes-most}
-use Rattle.rules.proofs.Measures.{sizes_of, sizes_are}
+use Rattle.rules.proofs.Accepted.{Bounds, nodes-most}
+use Rattle.rules.proofs.Measures.{own-sizes, sizes_of, sizes_are}
 use Rattle.rules.proofs.House.{code, stripe, points-distinct}
 use Rattle.rules.proofs.Stripes.{symbol-at}
 use Rattle.rules.proofs.Ties.{digit_tie, with_digit_tie, symbol-phantom, sum_tie, equation_tie}
@@ -49,6 +48,8 @@ use Rattle.corrections.specs.Correction.{chosen, correction_by, correction_in, C
 use Rattle.levels.specs.Promise.{NoneFrom}
 use Rattle.choices.specs.Promise.{PointsAre, ScoresAre}
 use Rattle.levels.specs.Kernel.{Placed, LevelCorrected, bytes_at}
+use Rattle.levels.specs.declared.level.Lost.{Lost}
+use Rattle.levels.proofs.Losses.{fits, lists}
 
 -- the number whose product with a byte is 1 is its inverse
 inverse-is : (a q : ℕ) → 0 < a → a < 256 → q < 256 → mul q a ≡ 1 → numbers.inverse (number a) ≡ number q
@@ -273,6 +274,10 @@ module _ (sh : Shape) (flags : List Bool) (nodes points scores : List ℕ) (coun
       within : count * rows sh ≤ length sums
       within = omega (arith, summed.all, mul-le-mul_right {m = count} {n = sh.r} (rows sh) few)
 
-  pub level_from : (z : Sizes) → SizesAre sh z → LevelFrom sh flags nodes points scores count level before later z
-  level_from z h =
-      subst (LevelFrom sh flags nodes points scores count level before later) (sym (sizes_are sh z h (bounds sh h.taken))) (level_from_at (bounds sh h.taken))
+module _ (lost : Lost) (level : ℕ) (before later : List ℕ) where
+  pub level_from : LevelFrom lost.z.shape lost.flags lost.nodes lost.points lost.scores lost.count level before later lost.z
+  level_from =
+      subst (LevelFrom lost.z.shape lost.flags lost.nodes lost.points lost.scores lost.count level before later)
+      (sym (sizes_are lost.z.shape lost.z (own-sizes lost.z) (fits lost)))
+      (level_from_at lost.z.shape lost.flags lost.nodes lost.points lost.scores lost.count level before later
+      lost.few (lists lost) lost.points_are lost.scores_are lost.none_above (fits lost))

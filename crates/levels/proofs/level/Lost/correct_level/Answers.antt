@@ -87,8 +87,7 @@ unwrap-requires-3 c = rw (correctable (goal.at.unwrap-requires-3 c).After-correc
 pub returns : goal.returns
 returns c =
     let lost = c.args.self.now in
-    level_from lost.z.shape lost.flags lost.nodes lost.points lost.scores lost.count c.args.level c.args.stripe.now c.correct_columns.new.stripe
-    lost.few (lists lost) lost.points_are lost.scores_are lost.none_above lost.z (own-sizes lost.z)
+    level_from lost c.args.level c.args.stripe.now c.correct_columns.new.stripe
     c.sums_of.new.sums (drop (lost.z.shape.r * lost.z.l) (replicate 1024 0)) c.unknowns.new.found _ _ c.place.new.to _
     (summed (goal.at.returns c).After-sums_of)
     (unknowns-length c.unknowns.result c.unknowns.ensures (zeros-length (lost.count * lost.z.l) 1024 (found-most lost)))
