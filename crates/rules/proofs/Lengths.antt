@@ -1,4 +1,4 @@
--- Lengths and groups of an accepted shape, in the sizes that `measure` gives. In order: the length of a stripe, of its data columns, of a fraction, of the
+-- Lengths and groups of an accepted shape, in the sizes that `measure` gives. In order: the length of a stripe, of a fraction, of the
 -- sums of the rows read, of the columns of all nodes; how long they are at most; the group of a node ends among the nodes; what the group's digit counts is small.
 use mathlib.Core.Path.{◌≡◌, ap₂}
 use Prim.Native.Nat.{ℕ, suc, ◌+◌, ◌*◌, ◌/◌, ◌<◌, ◌≤◌}
@@ -17,10 +17,6 @@ use Rattle.rules.proofs.RowsRead.{worth-some, worth-most}
 pub stripe-is : (sh : Shape) (z : Sizes) → SizesAre sh z → z.shape.n * z.l ≡ stripe_length sh
 unfolding stripe_length
 stripe-is sh z h = ap₂ (λ (x y : ℕ). x * y) h.n-is h.l-is
-
-pub data_is : (sh : Shape) (z : Sizes) → SizesAre sh z → z.k * z.l ≡ data_length sh
-unfolding data_length
-data_is sh z h = ap₂ (λ (x y : ℕ). x * y) h.k-is h.l-is
 
 pub fraction-is : (sh : Shape) (z : Sizes) → SizesAre sh z → z.l / z.s ≡ fraction_length sh
 unfolding fraction_length

@@ -6,7 +6,7 @@
 --   Equation == weights, the equations, whole, the lowest failure
 --   Fraction == rows read, fractions, what a rebuilt column meets
 --   Lost     == the lost set, and what a filled stripe is
---   Refusal  == the first refusal that applies; refusal 1 (the others stand by entry in the entries' crates; 9 in crate `tables`)
+--   Refusal  == the first refusal that applies; the numbers of the refusals; refusals 1 and 3 (the lists stand by entry in the entries' crates)
 --   Sizes    == what the type of the sizes keeps
 --   Paper    == the equations of Ye and Barg as they print them
 --   Bench    == the bench stripes of document 01 that are proved

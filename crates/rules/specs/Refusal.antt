@@ -13,6 +13,18 @@ use Rattle.rules.specs.declared.refusals.Refusal.TheVariants as refusal
 use Rattle.rules.specs.declared.shapes.Shape.{Shape}
 use Rattle.rules.specs.Shape.{accepted}
 
+pub record Check : Type 0 where
+  pub number : ℕ
+  pub applies : Bool
+
+infix 80 ◌given-when◌
+abbrev pub ◌given-when◌ : ℕ → Bool → Check
+q given-when b = record { number = q; applies = b }
+
+abbrev pub first_of : List Check → Option ℕ
+first_of [] = none
+first_of (check ∷ rest) = cond check.applies (some check.number) (first_of rest)
+
 abbrev pub number_of : Refusal → ℕ
 number_of refusal.BadShape = 1
 number_of refusal.BadLength = 2
@@ -27,18 +39,6 @@ number_of refusal.DivisionByZero = 9
 abbrev pub refusal_of : {T : Type 0} → Result T Refusal → Option ℕ
 refusal_of (Ok _) = none
 refusal_of (Err q) = some (number_of q)
-
-pub record Check : Type 0 where
-  pub number : ℕ
-  pub applies : Bool
-
-infix 80 ◌given-when◌
-abbrev pub ◌given-when◌ : ℕ → Bool → Check
-q given-when b = record { number = q; applies = b }
-
-abbrev pub first_of : List Check → Option ℕ
-first_of [] = none
-first_of (check ∷ rest) = cond check.applies (some check.number) (first_of rest)
 
 unfoldable pub shape_refusal : Shape → Option ℕ
 shape_refusal sh = first_of (1 given-when not (accepted sh) ∷ [])

@@ -1,7 +1,8 @@
 // Document 01's rules: the shape of a stripe and the points in code, and in specs/ every rule that the other crates' contracts
 // cite. Read specs/ in the order of its Lib.antt, beside document 01.
 //
-// Every function that another crate can call takes every input: none has a `requires`. What each promises is in specs/Promise.antt.
+// Every function that another crate can call takes every input: none has a `requires`. What each promises is in specs/Promise.antt, or in the rules' own words
+// at the function.
 #![tactic(auto)]
 
 mod checking;
