@@ -3,7 +3,7 @@
 use mathlib.Core.Path.{◌≡◌, refl, sym, ap, ap₂, ◌∙◌, subst}
 use mathlib.Core.Bool.{true}
 use mathlib.Core.List.{List}
-use Prim.Native.Nat.{ℕ, suc, ◌+◌, ◌-◌, ◌*◌, ◌<◌, ◌≤◌, min}
+use Prim.Native.Nat.{ℕ, suc, ◌+◌, ◌-◌, ◌*◌, ◌<◌, min}
 use native.Mathlib.Nat.{lt_trans, add-suc}
 use native.Mathlib.Numerals.{add-one}
 use native.Mathlib.Omega.{arith}
@@ -16,9 +16,8 @@ use Rattle.rules.specs.Point.{point_of}
 use Rattle.rules.specs.Stripe.{Symbols, symbol, stripe_length}
 use Rattle.rules.specs.Equation.{weight, sum_below, sum_to, equation}
 use Rattle.rules.specs.declared.shapes.Sizes.{Sizes}
-use Rattle.rules.specs.Promise.{SizesAre}
 use Rattle.rules.proofs.Accepted.{Bounds, bounds}
-use Rattle.rules.proofs.Measures.{sizes_of, sizes_are}
+use Rattle.rules.proofs.Measures.{own-sizes, sizes_of, sizes_are}
 use Rattle.rules.proofs.Risings.{rising→listed, listed→rising}
 use Rattle.weights.specs.Promise.{Shared, weight_at}
 use Rattle.sums.specs.Kernel.{SumsAre, partial, FoundIn}
@@ -27,7 +26,6 @@ use Rattle.sums.specs.Refusal.{sums_refusal}
 use Rattle.sums.specs.Promise.{TestMeets, SumsMeet}
 use Rattle.sums.specs.declared.answers.Failure.{Failure}
 use Rattle.columns.proofs.Kernels.{entry-within}
-use Rattle.columns.proofs.Parts.{zeros-length, zeros-byte}
 use Rattle.sums.proofs.Groups.{part-weight}
 use Rattle.sums.proofs.Refusals.{test-accepted, sums-accepted}
 use Rattle.rules.specs.Refusal.{shape_refusal}
@@ -62,7 +60,7 @@ module _ (sh : Shape) (C : Symbols) where
         ∙ sym (partial-suc i a t);
   }
 
--- the sums of no node are zeros: a buffer that was cleared, and the front of an array of zeros
+-- the sums of no node are zeros
 pub sums-clear : (z : Sizes) (C : Symbols) (k : ℕ) → k ≡ z.shape.r * z.l → SumsAre z.shape C 0 (replicate k 0)
 sums-clear z C k exact =
     let all : k ≡ z.shape.r * rows z.shape = exact ∙ ap (λ l. z.shape.r * l) z.of_shape.l-is in
@@ -70,14 +68,6 @@ sums-clear z C k exact =
       all = length-replicate {A = ℕ} k 0 ∙ all;
       bytes = λ t a ht ha.
           get_or-replicate k (t * rows z.shape + a) 0 0 (omega (arith, all, entry-within ht ha)) ∙ sym (partial-zero z.shape C a t);
-    }
-
-pub sums-zero : (z : Sizes) (C : Symbols) (n k : ℕ) → n ≡ z.shape.r * z.l → n ≤ k → SumsAre z.shape C 0 (take n (replicate {A = ℕ} k 0))
-sums-zero z C n k exact few =
-    let all : n ≡ z.shape.r * rows z.shape = exact ∙ ap (λ l. z.shape.r * l) z.of_shape.l-is in
-    record {
-      all = zeros-length n k few ∙ all;
-      bytes = λ t a ht ha. zeros-byte n k few (t * rows z.shape + a) (omega (arith, all, entry-within ht ha)) ∙ sym (partial-zero z.shape C a t);
     }
 
 -- One step of the loop over the nodes of group v: the group's columns are lent from a to e, w is what its digit counts, p the point of the node at place u.
@@ -104,8 +94,10 @@ module _ (sh : Shape) (b : Bounds sh) (stripe : List ℕ) where
           ≡ weight sh (symbol sh stripe) a (suc (v * group_size sh + u))
       right a ha = rw (is-worth, is-end) (part-weight sh b stripe a v u ha of_groups inside)
 
-pub node-step : (sh : Shape) (z : Sizes) → SizesAre sh z → (stripe : List ℕ) → NodeStep sh stripe z
-node-step sh z h stripe = subst (NodeStep sh stripe) (sym (sizes_are sh z h (bounds sh h.taken))) (node-step-at sh (bounds sh h.taken) stripe)
+pub node-step : (z : Sizes) (stripe : List ℕ) → NodeStep z.shape stripe z
+node-step z stripe =
+    let b = bounds z.shape z.of_shape.taken in
+    subst (NodeStep z.shape stripe) (sym (sizes_are z.shape z (own-sizes z) b)) (node-step-at z.shape b stripe)
 
 -- what the sums of all nodes say of the stripe
 module _ (sh : Shape) (stripe sums : List ℕ) (all : SumsAre sh (symbol sh stripe) (groups sh * group_size sh) sums) where

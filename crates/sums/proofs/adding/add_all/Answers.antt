@@ -2,7 +2,6 @@
 use mathlib.Core.Path.{sym, ap, ◌∙◌}
 use Prim.Native.Nat.{◌<◌, ◌*◌, min}
 use native.Mathlib.Omega.{arith}
-use Rattle.rules.proofs.Measures.{own-sizes}
 use Rattle.weights.specs.Promise.{Addable}
 use Rattle.weights.proofs.Refusing.{node_ok, node-shared}
 use Rattle.sums.proofs.Room.{Counts, room, counts}
@@ -38,7 +37,7 @@ pub loop-u-preserved : goal.loop-u-preserved
 loop-u-preserved c =
     let z = c.args.z in
     let here = (goal.at.loop-u-preserved c).In-loop-u in
-    node-step z.shape z (own-sizes z) c.args.stripe.now c.loop-v.v c.loop-u.u _ _ _ c.loop-u.sums _ c.loop-v-test.true (place here) (digit here).is
+    node-step z c.args.stripe.now c.loop-v.v c.loop-u.u _ _ _ c.loop-u.sums _ c.loop-v-test.true (place here) (digit here).is
     (c.point-p.ensures.inside (omega arith) (omega (arith, room z c.loop-v.v c.loop-v-test.true)))
     (c.min-stop.ensures ∙ ap (min _) c.requires.stripe_len)
     c.loop-u.invariant
