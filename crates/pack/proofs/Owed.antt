@@ -9,10 +9,12 @@ use native.Mathlib.Decide.{dec_le}
 use native.Mathlib.Nat.{div-eq_of_lt}
 use native.Mathlib.Omega.{arith}
 use lib.ListN.{length, drop}
+use Rattle.rules.specs.declared.refusals.Refusal.TheVariants.{TooManyLost}
+use Rattle.rules.specs.Refusal.{number_of, refusal_of}
+use Rattle.rules.proofs.Numbers.{number_of-injective}
 use Rattle.rules.specs.Stripe.{stripe_length}
 use Rattle.rules.specs.Lost.{lost_count, bit_above}
 use Rattle.rules.proofs.LostSets.{lost-below}
-use Rattle.yebarg.specs.declared.answers.Outcome.TheVariants as outcome
 use Rattle.fill.specs.Refusal.{fill_refusal}
 use Rattle.fill.specs.Promise.{FillMeets}
 use Rattle.fill.proofs.Taken.{taken→fill}
@@ -21,17 +23,17 @@ use Rattle.layout.specs.declared.answers.Found.{Found}
 use Rattle.entries.specs.Pack.{others}
 use Rattle.layout.specs.Promise.{LayoutIs}
 use Rattle.entries.proofs.Sets.{others-inside}
-use Rattle.pack.specs.declared.answers.Unpacked.{Unpacked}
-use Rattle.pack.specs.declared.answers.Unpacked.TheVariants.{Accepted, Refused}
-use Rattle.pack.specs.Answer.{refusal_of_read}
+use Rattle.std.specs.Prelude.{Result, Ok, Err}
+use Rattle.rules.specs.declared.refusals.Refusal.{Refusal}
+use Rattle.pack.specs.declared.answers.Contents.{Contents}
 use Rattle.pack.specs.Promise.{Unpacks, ReadIs}
 use Rattle.pack.specs.Kernel.{Placed, FoundMeets}
 use Rattle.pack.proofs.Unpacking.{filled→unpacks, unpacks→filled, unpacks→read}
 
 -- what an answer that is accepted says
-abbrev Reads : List ℕ → List ℕ → List ℕ → Unpacked → Type 0
-Reads pack before later (Accepted contents) = ReadIs pack before contents later
-Reads pack before later (Refused q) = Unit {0}
+abbrev Reads : List ℕ → List ℕ → List ℕ → Result Contents Refusal → Type 0
+Reads pack before later (Ok contents) = ReadIs pack before contents later
+Reads pack before later (Err q) = Unit {0}
 
 module _ (found : Found) (pack before blank placed : List ℕ) (is : LayoutIs pack found) (exact : length blank ≡ stripe_length found.shape)
     (put : Placed found pack blank placed) where
@@ -54,19 +56,19 @@ module _ (found : Found) (pack before blank placed : List ℕ) (is : LayoutIs pa
       taken→fill found.shape lost placed
       (record { shape = is.taken; exact = long; none_above = inside; few = h })
 
-  pub refused_owed : (q : ℕ) (filled : List ℕ) → FillMeets found.shape lost placed (outcome.Refused q) filled
-      → FoundMeets found pack before (Refused q) before
+  pub refused_owed : (q : Refusal) (filled : List ℕ) → FillMeets found.shape lost placed (Err q) filled
+      → FoundMeets found pack before (Err q) before
   refused_owed q filled p = record {
-    many = λ h. ap Refused (some-injective _ _ (p.refused 4 (too_many h)));
-    reads = λ contents e. absurd (some-ne-none q (ap refusal_of_read e));
+    many = λ h. ap Err (number_of-injective q TooManyLost (some-injective _ _ (p.refused 4 (too_many h))));
+    reads = λ contents e. absurd (some-ne-none (number_of q) (ap refusal_of e));
     unfillable = λ few k e.
-        let (five, none-fills) = p.unfillable (few_enough few) q refl in
+        let (five, none-fills) = p.unfillable (few_enough few) (number_of q) refl in
         (sym (some-injective _ _ e) ∙ five, λ stripe u. none-fills stripe (unpacks→filled found pack blank placed is put stripe exact u));
     kept = λ k e. refl;
   }
 
-  pub done_owed : (filled : List ℕ) → FillMeets found.shape lost placed outcome.Done filled
-      → FoundMeets found pack before (Accepted (record { shape = found.shape; lost = lost })) (filled ++ drop (stripe_length found.shape) before)
+  pub done_owed : (filled : List ℕ) → FillMeets found.shape lost placed (Ok tt) filled
+      → FoundMeets found pack before (Ok (record { shape = found.shape; lost = lost })) (filled ++ drop (stripe_length found.shape) before)
   done_owed filled p = record {
     many = λ h. absurd (not_many h);
     reads = λ contents e. subst (Reads pack before later) e (unpacks→read found.shape lost pack filled unpacks before is.taken inside);

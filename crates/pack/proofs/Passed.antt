@@ -11,7 +11,9 @@ use lib.ListN.{length}
 use borrow.Author.Tests.{ltb-false, lt-ltb, le-ltb, eq-eqb, ne_eqb}
 use Rattle.rules.specs.declared.shapes.Shape.{Shape}
 use Rattle.rules.specs.Lost.{lost_count}
-use Rattle.rules.specs.Refusal.{Check, first_of, ◌given-when◌}
+use Rattle.std.specs.Prelude.{Ok, Err}
+use Rattle.rules.specs.declared.refusals.Refusal.{Refusal}
+use Rattle.rules.specs.Refusal.{Check, first_of, number_of, ◌given-when◌}
 use Rattle.rules.proofs.Checks.{none-given, none_left, first-later, first-earlier}
 use Rattle.layout.specs.declared.answers.Found.{Found}
 use Rattle.entries.specs.Pack.{others}
@@ -21,7 +23,6 @@ use Rattle.layout.specs.Promise.{LayoutIs}
 use Rattle.entries.proofs.Sets.{others-count}
 use Rattle.layout.proofs.Packs.{found-parts, found-accepted}
 use Rattle.pack.specs.declared.answers.Contents.{Contents}
-use Rattle.pack.specs.declared.answers.Unpacked.TheVariants.{Accepted, Refused}
 use Rattle.pack.specs.Refusal.{stripe_most, read_refusal}
 use Rattle.pack.specs.Promise.{ReadIs, ReadMeets}
 
@@ -54,11 +55,11 @@ module _ (pack before : List ℕ) where
       pub read_none : (shape_in pack).n - count_in pack ≤ (shape_in pack).r → read_refusal pack before ≡ none
       read_none h = after_layout ∙ ap (λ b. cond b (some 4) none) (le-ltb (shape_in pack).r ((shape_in pack).n - count_in pack) h)
 
-  pub read-refused : {q : ℕ} → read_refusal pack before ≡ some q → ReadMeets pack before (Refused q) before
-  read-refused {q} e = record {
+  pub read-refused : (q : Refusal) → read_refusal pack before ≡ some (number_of q) → ReadMeets pack before (Err q) before
+  read-refused q e = record {
     refused = λ p h. sym e ∙ h;
-    reads = λ h. absurd (none-ne-some q (sym h ∙ e));
-    unfillable = λ h. absurd (none-ne-some q (sym h ∙ e));
+    reads = λ h. absurd (none-ne-some (number_of q) (sym h ∙ e));
+    unfillable = λ h. absurd (none-ne-some (number_of q) (sym h ∙ e));
     kept = λ p h. refl;
   }
 
@@ -91,7 +92,7 @@ module _ (pack before : List ℕ) (found : Found) (is : LayoutIs pack found) whe
     found_none h = let (lost-is, r-is) = not_held in read_none pack before room (found-accepted pack found is) (omega (arith, h, lost-is, r-is))
 
 -- what is accepted has passed the checks, and is read
-module _ (pack before : List ℕ) (contents : Contents) (later : List ℕ) (p : ReadMeets pack before (Accepted contents) later) where
+module _ (pack before : List ℕ) (contents : Contents) (later : List ℕ) (p : ReadMeets pack before (Ok contents) later) where
   pub accepted-passes : read_refusal pack before ≡ none
   accepted-passes = none_left (read_refusal pack before) (λ q e. none-ne-some q (p.refused q e))
 

@@ -15,7 +15,9 @@ use Rattle.rules.specs.declared.shapes.Shape.{Shape}
 use Rattle.rules.specs.Stripe.{IsBytes, stripe_length, column}
 use Rattle.rules.specs.Equation.{Whole}
 use Rattle.rules.specs.Lost.{is_lost, lost_count, bit_above, Filled}
-use Rattle.rules.specs.Refusal.{shape_refusal}
+use Rattle.rules.specs.declared.refusals.Refusal.TheVariants.{NoWholeStripe}
+use Rattle.rules.specs.Refusal.{number_of, refusal_of, shape_refusal}
+use Rattle.rules.proofs.Numbers.{number_of-injective}
 use Rattle.rules.proofs.Accepted.{bounds}
 use Rattle.rules.proofs.LostSets.{lost_among_lem}
 use Rattle.rules.proofs.Fillings.{filled-only, filled_exists}
@@ -26,10 +28,9 @@ use Rattle.layout.specs.Promise.{LayoutIs}
 use Rattle.entries.proofs.Sets.{others-inside, others-has, others-others}
 use Rattle.layout.proofs.Packs.{found_in, layout_only, packed-columns, found-parts, pack→layout}
 use Rattle.pack.specs.declared.answers.Contents.{Contents}
-use Rattle.pack.specs.declared.answers.Unpacked.{Unpacked}
-use Rattle.pack.specs.declared.answers.Unpacked.TheVariants.{Accepted, Refused}
+use Rattle.std.specs.Prelude.{Result, Ok, Err}
+use Rattle.rules.specs.declared.refusals.Refusal.{Refusal}
 use Rattle.pack.specs.Refusal.{stripe_most, read_refusal}
-use Rattle.pack.specs.Answer.{refusal_of_read}
 use Rattle.pack.specs.Promise.{Unpacks, ReadIs, ReadMeets}
 use Rattle.pack.specs.Kernel.{Placed, FoundMeets}
 use Rattle.pack.proofs.EndToEnd.{columns-same, columns-each, columns-length}
@@ -159,7 +160,7 @@ unpacks-only sh lost pack x y taken inside few u v =
     (unpacks-fills sh lost y pack y inside v.bytes.exact v.is v)
 
 -- what `read_pack` promises where the layout is read
-pub found→read : (found : Found) (pack before : List ℕ) (answer : Unpacked) (later : List ℕ) → length before ≡ stripe_most → LayoutIs pack found
+pub found→read : (found : Found) (pack before : List ℕ) (answer : Result Contents Refusal) (later : List ℕ) → length before ≡ stripe_most → LayoutIs pack found
     → FoundMeets found pack before answer later → ReadMeets pack before answer later
 found→read found pack before answer later room is m = record {
   refused = λ q e. refused q e (dec_le (suc sh.r) (lost_count lost));
@@ -179,8 +180,8 @@ found→read found pack before answer later room is m = record {
     lost : ℕ
     lost = others found.shape found.held
 
-    refused : (q : ℕ) → read_refusal pack before ≡ some q → Dec (suc sh.r ≤ lost_count lost) → refusal_of_read answer ≡ some q
-    refused q e (yes h) = ap refusal_of_read (m.many h) ∙ sym (found-many pack before found is room h) ∙ e
+    refused : (q : ℕ) → read_refusal pack before ≡ some q → Dec (suc sh.r ≤ lost_count lost) → refusal_of answer ≡ some q
+    refused q e (yes h) = ap refusal_of (m.many h) ∙ sym (found-many pack before found is room h) ∙ e
     refused q e (no h) = absurd (none-ne-some q (sym (found_none pack before found is room (omega arith)) ∙ e))
 
 -- what is read has at most r lost
@@ -214,7 +215,7 @@ read_only pack before c d x y passes p q = (content, go (subst (λ (z : Contents
         ∙ take-append-drop (stripe_length sh) y
 
 -- a pack made of the columns of a stripe with at most r missing
-module _ (sh : Shape) (lost : ℕ) (given before : List ℕ) (answer : Unpacked) (later : List ℕ)
+module _ (sh : Shape) (lost : ℕ) (given before : List ℕ) (answer : Result Contents Refusal) (later : List ℕ)
     (taken : shape_refusal sh ≡ none) (inside : bit_above sh lost ≡ false) (few : lost_count lost ≤ sh.r) (exact : length given ≡ stripe_length sh)
     (room : length before ≡ stripe_most)
     (p : ReadMeets (packed sh (others sh lost) (columns_of sh (others sh lost) given)) before answer later) where
@@ -230,7 +231,7 @@ module _ (sh : Shape) (lost : ℕ) (given before : List ℕ) (answer : Unpacked)
 
   -- where the stripe is whole, the answer is that stripe
   pub given_back : IsBytes (stripe_length sh) given → Whole sh given
-      → (answer ≡ Accepted (record { shape = sh; lost = lost })) × (later ≡ given ++ drop (stripe_length sh) before)
+      → (answer ≡ Ok (record { shape = sh; lost = lost })) × (later ≡ given ++ drop (stripe_length sh) before)
   given_back bytes whole = go answer refl
     where
       contents : Contents
@@ -242,40 +243,41 @@ module _ (sh : Shape) (lost : ℕ) (given before : List ℕ) (answer : Unpacked)
       unpacks : Unpacks sh lost pack given
       unpacks = record { bytes = bytes; whole = whole; is = refl }
 
-      go : (a : Unpacked) → answer ≡ a → (answer ≡ Accepted contents) × (later ≡ given ++ rest)
-      go (Refused q) e = absurd ((p.unfillable passes q (ap refusal_of_read e)).1 sh lost given inside unpacks)
-      go (Accepted c) e =
+      go : (a : Result Contents Refusal) → answer ≡ a → (answer ≡ Ok contents) × (later ≡ given ++ rest)
+      go (Err q) e = absurd ((p.unfillable passes (number_of q) (ap refusal_of e)).1 sh lost given inside unpacks)
+      go (Ok c) e =
           let right = unpacks→read sh lost pack given unpacks before taken inside in
           let (content, same) = read_only pack before c contents later (given ++ rest) passes (p.reads passes c e) right in
-          (e ∙ ap Accepted content, same)
+          (e ∙ ap Ok content, same)
 
   -- and of columns that belong to no whole stripe it is 5
-  pub read-unfillable : ((other : List ℕ) → Filled sh (is_lost lost) given other → ⊥) → (answer ≡ Refused 5) × (later ≡ before)
+  pub read-unfillable : ((other : List ℕ) → Filled sh (is_lost lost) given other → ⊥) → (answer ≡ Err NoWholeStripe) × (later ≡ before)
   read-unfillable unfilled = go answer refl
     where
-      go : (a : Unpacked) → answer ≡ a → (answer ≡ Refused 5) × (later ≡ before)
-      go (Refused q) e = (e ∙ ap Refused (p.unfillable passes q (ap refusal_of_read e)).0, p.kept q (ap refusal_of_read e))
-      go (Accepted c) e =
+      go : (a : Result Contents Refusal) → answer ≡ a → (answer ≡ Err NoWholeStripe) × (later ≡ before)
+      go (Err q) e =
+          (e ∙ ap Err (number_of-injective q NoWholeStripe (p.unfillable passes (number_of q) (ap refusal_of e)).0), p.kept (number_of q) (ap refusal_of e))
+      go (Ok c) e =
           let read = p.reads passes c e in
           let same = contents-only pack c (record { shape = sh; lost = lost }) _ found-is read.inside inside read.filled in
           absurd
           (unfilled _ (unpacks-fills sh lost given pack _ inside exact refl (subst (λ (z : Contents). ReadIs pack before z later) same read).filled))
 
 -- "for a pack made of the columns of a whole stripe with at most r missing, the answer is that stripe"
-pub read_gives_back : (sh : Shape) (lost : ℕ) (stripe before : List ℕ) (answer : Unpacked) (later : List ℕ)
+pub read_gives_back : (sh : Shape) (lost : ℕ) (stripe before : List ℕ) (answer : Result Contents Refusal) (later : List ℕ)
     → shape_refusal sh ≡ none → bit_above sh lost ≡ false → lost_count lost ≤ sh.r → IsBytes (stripe_length sh) stripe → Whole sh stripe
     → length before ≡ stripe_most
     → ReadMeets (packed sh (others sh lost) (columns_of sh (others sh lost) stripe)) before answer later
-    → (answer ≡ Accepted (record { shape = sh; lost = lost })) × (later ≡ stripe ++ drop (stripe_length sh) before)
+    → (answer ≡ Ok (record { shape = sh; lost = lost })) × (later ≡ stripe ++ drop (stripe_length sh) before)
 read_gives_back sh lost stripe before answer later taken inside few bytes whole room p =
     given_back sh lost stripe before answer later taken inside few bytes.exact room p bytes whole
 
 -- "Refusal 5 can't occur with r lost": whatever the bytes of the other columns are
-pub read_with_r-lost : (sh : Shape) (lost : ℕ) (stripe before : List ℕ) (answer : Unpacked) (later : List ℕ)
+pub read_with_r-lost : (sh : Shape) (lost : ℕ) (stripe before : List ℕ) (answer : Result Contents Refusal) (later : List ℕ)
     → shape_refusal sh ≡ none → bit_above sh lost ≡ false → lost_count lost ≡ sh.r → IsBytes (stripe_length sh) stripe
     → length before ≡ stripe_most
     → ReadMeets (packed sh (others sh lost) (columns_of sh (others sh lost) stripe)) before answer later
-    → answer ≡ Accepted (record { shape = sh; lost = lost })
+    → answer ≡ Ok (record { shape = sh; lost = lost })
 read_with_r-lost sh lost stripe before answer later taken inside many bytes room p =
     let (W, f) = filled_exists sh (bounds sh taken) (is_lost lost) (lost_among_lem sh lost inside ∙ many) stripe bytes in
     (read_gives_back sh lost W before answer later taken inside (omega (arith, many)) f.bytes f.whole room

@@ -10,7 +10,7 @@ mod placing;
 mod reading;
 
 // What reading a pack answers.
-pub use answers::{Contents, Unpacked};
+pub use answers::Contents;
 
 // The filled stripe of a pack.
 pub use reading::read_pack;
