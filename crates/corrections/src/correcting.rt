@@ -26,7 +26,7 @@ fn correction(u: usize, d: usize, paired: bool, own: u8, other: u8) -> u8
 }
 
 // Which columns are corrected, by the flags of their nodes, and at which rows: those that have the score asked for.
-#[derive(Clone, Copy)]
+#[derive(Clone, Copy, Debug, PartialEq, Eq)]
 struct Asked<'a> {
     flags: [bool; 16],
     scores: &'a [u8],
@@ -34,39 +34,34 @@ struct Asked<'a> {
 }
 
 // A group of nodes.
-#[derive(Clone, Copy)]
+#[derive(Clone, Copy, Debug, PartialEq, Eq)]
 struct Group<'a> {
+    z: Sizes,
     // The group's first node, from 0.
     first: usize,
-    // How many nodes it has.
-    s: usize,
     // What a 1 as the group's digit counts.
     w: usize,
-    // Rows.
-    l: usize,
     // What the weights of the group's nodes fall short by, column by column.
     short: &'a [u8],
-    ghost nodes: { first + s ≤ 16 },
-    ghost few: { s ≤ 4 },
+    ghost nodes: { first + z.s ≤ 16 },
     ghost worth_some: { 0 < w },
     ghost worth_most: { w ≤ 256 },
-    ghost rows_most: { l ≤ 256 },
 }
 
 impl Group<'_> {
     // What the weight of the node at place u falls short by at row a.
     fn short_at(&self, u: usize, a: usize) -> u8
         requires small { (u < 4) × (a ≤ 2048) }
-        ensures { ByteIs self.now.short.now (u * self.now.l + a) result }
+        ensures { ByteIs self.now.short.now (u * self.now.z.l + a) result }
     {
-        byte_at(self.short, u * self.l + a)
+        byte_at(self.short, u * self.z.l + a)
     }
 
     // Adds the corrections to the column of the node at place u.
     fn correct_column(&self, u: usize, asked: &Asked, column: &mut [u8])
-        requires place { u < self.now.s }
-        requires rows { (length column.old ≡ self.now.l) × (self.now.l ≤ length asked.now.scores.now) }
-        ensures { ColumnCorrected self.now.s self.now.w self.now.short.now self.now.first asked.now.flags u asked.now.scores.now asked.now.level column.old column.new }
+        requires place { u < self.now.z.s }
+        requires rows { (length column.old ≡ self.now.z.l) × (self.now.z.l ≤ length asked.now.scores.now) }
+        ensures { ColumnCorrected self.now.z.s self.now.w self.now.short.now self.now.first asked.now.flags u asked.now.scores.now asked.now.level column.old column.new }
     {
         // The group's digit of row a, and what the digits below it count. They are carried along, so that no row divides.
         let mut d = 0;
@@ -81,7 +76,7 @@ impl Group<'_> {
             if j == self.w {
                 j = 0;
                 d += 1;
-                if d == self.s {
+                if d == self.z.s {
                     d = 0;
                 }
             }
@@ -96,8 +91,7 @@ fn correct_chosen(z: Sizes, asked: &Asked, short: &[u8], stripe: &mut [u8])
     requires exact { length stripe.old ≡ z.shape.n * z.l }
     ensures { ColumnsCorrected z.shape asked.now.flags asked.now.scores.now asked.now.level short.now stripe.old stripe.new }
 {
-    let s = z.s;
-    let l = z.l;
+    let Sizes { s, l, .. } = z;
     for i in 0..z.shape.n {
         if asked.flags[i] {
             let v = i / s;
@@ -106,13 +100,9 @@ fn correct_chosen(z: Sizes, asked: &Asked, short: &[u8], stripe: &mut [u8])
             let stop = start + l;
             let from = first * l;
             let to = from + s * l;
-            let group = Group {
-                first,
-                s,
-                w: worth(z.shape, v + 1),
-                l,
-                short: &short[from..to],
-            };
+            let w = worth(z.shape, v + 1);
+            let short = &short[from..to];
+            let group = Group { z, first, w, short };
             group.correct_column(i % s, asked, &mut stripe[start..stop]);
         }
     }

@@ -16,7 +16,7 @@ use solver::unknowns;
 use sums::sums_of;
 
 // The lost nodes of a shape: at most r, and none above n.
-#[derive(Clone, Copy)]
+#[derive(Clone, Copy, Debug, PartialEq, Eq)]
 struct Lost {
     z: Sizes,
     flags: [bool; 16],

@@ -47,13 +47,13 @@ loop-a-preserved c =
     let group = c.args.self.now in
     let asked = c.args.asked.now in
     let before = c.args.column.now in
-    let new = corrected_at group.s group.w group.short.now group.first asked.flags c.args.u asked.scores.now asked.level before in
+    let new = corrected_at group.z.s group.w group.short.now group.first asked.flags c.args.u asked.scores.now asked.level before in
     record {
       written = elim c.if-asked-a.branch [
         | then-asked-a w ↦ subst (Written new (x.a + 1) before) (sym w.column-is)
             (written_step x.invariant.written _ c.loop-a-test.true
             (added asked.scores.now asked.level before x.a w.if-asked-a.true (written-here x.invariant.written)
-            (next-correction group.s group.w group.l (length before) group.short.now group.first asked.flags c.args.u x.a x.invariant.carried.digit
+            (next-correction group.z.s group.w group.z.l (length before) group.short.now group.first asked.flags c.args.u x.a x.invariant.carried.digit
             (sym c.requires.rows.0) w.short_at-own.ensures.value w.short_at-other.ensures.value w.correction.ensures)))
         | else-asked-a w ↦ subst (Written new (x.a + 1) before) (sym w.column-is)
             (written_step x.invariant.written _ c.loop-a-test.true

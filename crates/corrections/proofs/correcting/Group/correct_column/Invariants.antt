@@ -18,6 +18,6 @@ corrected_at s w group first flags u scores level before a = byte_at scores leve
 
 abbrev pub invariant-loop-a : goal.invariant-loop-a
 invariant-loop-a l = record {
-  written : Written (corrected_at l.self.s l.self.w l.self.short.now l.self.first l.asked.flags l.u l.asked.scores.now l.asked.level l.initial.column) l.a l.initial.column l.column;
-  carried : Carried l.self.s l.self.w l.a l.d l.j;
+  written : Written (corrected_at l.self.z.s l.self.w l.self.short.now l.self.first l.asked.flags l.u l.asked.scores.now l.asked.level l.initial.column) l.a l.initial.column l.column;
+  carried : Carried l.self.z.s l.self.w l.a l.d l.j;
 }
