@@ -1,4 +1,4 @@
--- What the private functions do, each byte said.
+-- What the private function does, each byte said.
 --   AddsEach may from before later == `add_mapped`: each byte of `before` plus one that `may` allows for the byte of `from`; past the end of `from` it is kept
 use Rattle.std.specs.Prelude.{◌≡◌, List, ℕ, ◌<◌, ◌≤◌, length, get_or}
 use Rattle.field.specs.Number.{add}

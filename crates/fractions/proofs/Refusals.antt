@@ -10,9 +10,8 @@ use borrow.Author.Tests.{eqb-true, eq-eqb, ne_eqb}
 use Rattle.rules.specs.declared.shapes.Shape.{Shape}
 use Rattle.rules.specs.Shape.{accepted}
 use Rattle.rules.specs.Fraction.{fraction_length}
-use Rattle.rules.specs.Refusal.{first_of, ◌given-when◌, shape_refusal}
+use Rattle.rules.specs.Refusal.{first_of, ◌given-when◌, shape_refusal, not_node}
 use Rattle.rules.proofs.Accepted.{is-accepted}
-use Rattle.rules.specs.Refusal.{not_node}
 use Rattle.fractions.specs.Refusal.{add_refusal}
 
 module _ (sh : Shape) (failed helper : ℕ) (given sums : List ℕ) where

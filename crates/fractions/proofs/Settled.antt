@@ -19,9 +19,8 @@ use Rattle.rules.proofs.Stripes.{by_columns}
 use Rattle.std.specs.Prelude.{Result, Ok, Err}
 use Rattle.rules.specs.declared.refusals.Refusal.{Refusal}
 use Rattle.rules.specs.declared.refusals.Refusal.TheVariants.{BadNode}
-use Rattle.rules.specs.Refusal.{number_of}
+use Rattle.rules.specs.Refusal.{number_of, not_node}
 use Rattle.rules.proofs.Numbers.{answers_settled}
-use Rattle.rules.specs.Refusal.{not_node}
 use Rattle.fractions.specs.Refusal.{add_refusal}
 use Rattle.fractions.specs.Promise.{AddMeets}
 use Rattle.fractions.proofs.Refusals.{add-taken}

@@ -1,4 +1,4 @@
--- What the private functions do, each byte said. They work on plain numbers: s is the size of a group, w what a 1 as the group's digit counts (`worth`), l how
+-- What the private functions do, each byte said. s is the size of a group, w what a 1 as the group's digit counts (`worth`), l how
 -- many rows are read.
 --   Gained r l gains before later == to the r sums of every row is added what `gains` has for that t and row
 --   gain sh first s weights t a == the sum, over the s nodes after node `first`, of point to the power t times weight

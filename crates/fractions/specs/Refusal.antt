@@ -5,8 +5,7 @@ use Rattle.std.proofs.Math.Option.{Option}
 use Rattle.rules.specs.declared.shapes.Shape.{Shape}
 use Rattle.rules.specs.Shape.{accepted}
 use Rattle.rules.specs.Fraction.{fraction_length}
-use Rattle.rules.specs.Refusal.{first_of, ◌given-when◌}
-use Rattle.rules.specs.Refusal.{not_node}
+use Rattle.rules.specs.Refusal.{first_of, ◌given-when◌, not_node}
 
 unfoldable pub add_refusal : Shape → ℕ → ℕ → List ℕ → List ℕ → Option ℕ
 add_refusal sh failed helper given sums =

@@ -20,9 +20,8 @@ use Rattle.rules.proofs.Benches.{parity-a, parity-b, rebuilt-h, rebuilt-i, bench
 use Rattle.std.specs.Prelude.{Result, Ok, Err}
 use Rattle.rules.specs.declared.refusals.Refusal.{Refusal}
 use Rattle.rules.specs.declared.refusals.Refusal.TheVariants.{BadLength, BadNode}
-use Rattle.rules.specs.Refusal.{number_of}
+use Rattle.rules.specs.Refusal.{number_of, not_node}
 use Rattle.rules.proofs.Numbers.{answers_settled}
-use Rattle.rules.specs.Refusal.{not_node}
 use Rattle.rebuild.specs.Refusal.{rebuild_refusal}
 use Rattle.rebuild.specs.Promise.{RebuildMeets}
 use Rattle.rebuild.proofs.Taken.{rebuild-answers}

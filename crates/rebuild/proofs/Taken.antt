@@ -12,13 +12,12 @@ use Rattle.rules.specs.declared.shapes.Shape.{Shape}
 use Rattle.rules.specs.Shape.{accepted, rows}
 use Rattle.rules.specs.Stripe.{IsBytes}
 use Rattle.rules.specs.Fraction.{fraction_length, MeetsRead}
-use Rattle.rules.specs.Refusal.{◌given-when◌, shape_refusal}
+use Rattle.rules.specs.Refusal.{◌given-when◌, shape_refusal, not_node}
 use Rattle.rules.proofs.Checks.{not_other, none-given}
 use Rattle.rules.proofs.Accepted.{bounds, is-accepted, not_refused}
 use Rattle.rules.proofs.Rebuildings.{rebuilt-only}
 use Rattle.std.specs.Prelude.{Result}
 use Rattle.rules.specs.declared.refusals.Refusal.{Refusal}
-use Rattle.rules.specs.Refusal.{not_node}
 use Rattle.yebarg.proofs.Refusals.{a-node, is-node}
 use Rattle.rebuild.specs.Refusal.{rebuild_refusal}
 use Rattle.rebuild.specs.Promise.{RebuildMeets}

@@ -1,4 +1,4 @@
--- What the private functions do, each byte said. They work on plain numbers: l is the length of a column.
+-- What the private functions do, each byte said. l is the length of a column.
 --   partial sh C i a t   == the sum of an equation over the nodes 1 to i
 --   SumsAre sh C i sums  == `sums` holds these sums, those of t = 0 for every row first
 --   AllZero r l sums     == every sum is 0

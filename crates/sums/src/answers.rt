@@ -1,4 +1,4 @@
-// What a test answers. specs/Answer.antt gives document 01's number and values for each case.
+// What a test finds. specs/Answer.antt gives document 01's number and values for each case of its answer.
 
 // Where a stripe fails.
 #[derive(Clone, Copy, Debug, PartialEq, Eq)]

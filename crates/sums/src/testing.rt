@@ -22,7 +22,7 @@ fn lowest(sums: &[u8], z: Sizes) -> Option<Failure>
     None
 }
 
-// Is the stripe whole? If not, the lowest row that fails and in it the lowest t.
+// Where the stripe fails first: the lowest row, and in it the lowest t; none where it is whole.
 #[tactic(auto, unfolding(crate::specs::Refusal::test_refusal, rules::specs::Refusal::shape_refusal))]
 pub fn test(shape: Shape, stripe: &[u8]) -> Result<Option<Failure>, Refusal>
     ensures { TestMeets shape stripe.now result }
