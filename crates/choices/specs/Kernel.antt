@@ -1,5 +1,5 @@
--- What the private function for one point does.
---   PointAt sh i p == `point_at`: the point of the node that counts as i from 0, or 0 where i isn't below 16
+-- One point of a list.
+--   PointAt sh i p == the point of the node that counts as i from 0, or 0 where i isn't below 16
 use Rattle.std.specs.Prelude.{◌≡◌, ℕ, suc, ◌<◌, ◌≤◌}
 use Rattle.rules.specs.declared.shapes.Shape.{Shape}
 use Rattle.rules.specs.Point.{point_of}

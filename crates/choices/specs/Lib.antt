@@ -1,5 +1,5 @@
 -- What is said of chosen nodes.
 --   Promise == what each public function promises
---   Kernel  == what the private function for one point does
+--   Kernel  == one point of a list
 pub mod Promise
 pub mod Kernel

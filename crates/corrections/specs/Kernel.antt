@@ -1,7 +1,7 @@
 -- What the private function for one column does. s is the size of a group; nodes count from 0.
 --   correction_at s w l group first flags u a == what is added at row a for the node at place u of the group whose first node is `first`, w being what a 1
 --                         as the group's digit counts; `group` holds what the weights of the group's nodes fall short by, columns of length l end to end
---   ColumnCorrected == `correct_column`: at the rows of the score asked for that is added, other rows stay
+--   ColumnCorrected == `Group::correct_column`: at the rows of the score asked for that is added, other rows stay
 use Rattle.std.specs.Prelude.{◌≡◌, Bool, cond, List, eqb, length, get_or}
 use Prim.Native.Nat.{ℕ, ◌+◌, ◌-◌, ◌*◌, ◌/◌, ◌%◌, ◌<◌, compare}
 use Rattle.field.specs.Number.{add}

@@ -2,9 +2,9 @@
 -- spoken of: `code`, `stripe` and `number`, which carry the rules over, are in crates/rules/proofs/House.antt and crates/field/proofs/Numbers.antt. l is
 -- the length of a column.
 --   InOrder n flags nodes == the chosen nodes below n are listed in rising order: before each are as many as its index says
---   Placed nodes count l found before later == `place_columns`: column j of `found` is put where node nodes j has its column; the others stay
+--   Placed nodes count l found before later == `Lost::place`: column j of `found` is put where node nodes j has its column; the others stay
 --   bytes_at sh list == theory's stripe of the columns that stand end to end in a list
---   LevelCorrected sh flags k level before later == `correct_level`: what theory calls corrected, at the rows of that score
+--   LevelCorrected sh flags k level before later == `Lost::correct_level`: what theory calls corrected, at the rows of that score
 use Rattle.std.specs.Prelude.{◌≡◌, Bool, true, List, ℕ, ◌+◌, ◌*◌, ◌<◌, length, get_or}
 use Rattle.theory.specs.Set.{count}
 use Rattle.theory.specs.Code.{Stripe}
