@@ -24,9 +24,9 @@ three x low high =
     ∙ ap (λ (ds : List ℕ). ds ++ (48 + x % 10) ∷ []) (two (x / 10) (omega arith) (omega arith))
     ∙ rw hundreds refl
 
-pub spaced-written : (x : ℕ) → x < 1000 → spaced x ≡ 32 ∷ written x
+pub spaced_written : (x : ℕ) → x < 1000 → spaced x ≡ 32 ∷ written x
 unfolding spaced decimal
-spaced-written x small = elim (cases_lt x 10) [
+spaced_written x small = elim (cases_lt x 10) [
   | inl a ↦ rw (lt-ltb x 10 a) (ap (λ (ds : List ℕ). 32 ∷ ds) (sym (decimal_digit x a)))
   | inr a ↦ rw (le-ltb x 10 a) (elim (cases_lt x 100) [
     | inl b ↦ rw (lt-ltb x 100 b) (ap (λ (ds : List ℕ). 32 ∷ ds) (sym (two x a b)))
@@ -41,7 +41,7 @@ number-put before mid later text x small space is put =
     put
     ∙ ap₂ (λ (l k : List ℕ). l ++ k) space is
     ∙ append_assoc before (32 ∷ []) (written x)
-    ∙ ap (λ (l : List ℕ). before ++ l) (sym (spaced-written x small))
+    ∙ ap (λ (l : List ℕ). before ++ l) (sym (spaced_written x small))
 
 pub spaced-one : (x : ℕ) → x < 10 → spaced x ≡ 32 ∷ (48 + x % 10) ∷ []
 unfolding spaced decimal

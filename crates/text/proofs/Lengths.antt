@@ -9,7 +9,9 @@ use native.Mathlib.Omega.{arith}
 use lib.Count.{ones, ones_in}
 use Rattle.std.specs.Prelude.{Result, Ok, Err}
 use lib.ListN.{length, drop, replicate, length-append, length-take}
+use mathlib.Core.Bool.{false}
 use Rattle.rules.specs.declared.shapes.Shape.{Shape}
+use Rattle.rules.specs.declared.shapes.Sizes.{Sizes}
 use Rattle.rules.specs.Shape.{group_size, groups, rows, accepted}
 use Rattle.rules.specs.Stripe.{column, column_start}
 use Rattle.rules.specs.Rising.{rising, Listed}
@@ -30,9 +32,9 @@ use Rattle.text.proofs.Refusals.{Taken, none→taken}
 line-length : (word rest end : List ℕ) → length (word ++ rest ++ end) ≡ length word + length rest + length end
 line-length word rest end = length-append (word ++ rest) end ∙ ap (λ k. k + length end) (length-append word rest)
 
-pub refused-most : (q : ℕ) → length (refused_line q) ≤ 12
+pub refused_most : (q : ℕ) → length (refused_line q) ≤ 12
 unfolding refused_line line
-refused-most q = omega (arith, line-length (letters "refused") (spaced q) (letters "\n"), spaced-most q)
+refused_most q = omega (arith, line-length (letters "refused") (spaced q) (letters "\n"), spaced-most q)
 
 module _ (sh : Shape) (b : Bounds sh) where
   shape-most : length (shape_line sh) ≤ 15
@@ -105,29 +107,30 @@ read-most contents stripe taken =
       columns-most sh b lost few stripe,
     )
 
--- line after line
-pub read-room : (contents : Contents) (stripe : List ℕ) → Taken contents
-    → length (shape_line contents.shape) + length (lost_line contents.shape contents.lost)
-    + length (flat_map (column_line contents.shape stripe) (nodes_of contents.shape contents.lost))
-    ≤ longest_text
-unfolding read_text
-read-room contents stripe taken =
-    let sh = contents.shape in
-    let lost = contents.lost in
-    omega (
-      arith,
-      read-most contents stripe taken,
-      line-length (shape_line sh) (lost_line sh lost) (flat_map (column_line sh stripe) (nodes_of sh lost)),
-    )
+-- line by line, of sizes and a lost set that they can fill
+pub shape_room : (z : Sizes) → length (shape_line z.shape) ≤ 15
+shape_room z = shape-most z.shape (bounds z.shape z.of_shape.taken)
+
+module _ (z : Sizes) (lost : ℕ) where
+  nodes_few : bit_above z.shape lost ≡ false → lost_count lost ≤ z.shape.r → length (nodes_of z.shape lost) ≤ 4
+  nodes_few inside few = omega (arith, held_count z.shape lost inside, z.of_shape.r-most)
+
+  pub lost_room : bit_above z.shape lost ≡ false → lost_count lost ≤ z.shape.r → length (line "lost" (spaced_or_none (nodes_of z.shape lost))) ≤ 17
+  unfolding lost_line
+  lost_room inside few = lost-most z.shape (bounds z.shape z.of_shape.taken) lost (nodes_few inside few)
+
+  pub columns_room : (stripe : List ℕ) → bit_above z.shape lost ≡ false → lost_count lost ≤ z.shape.r
+      → length (flat_map (column_line z.shape stripe) (nodes_of z.shape lost)) ≤ 4136
+  columns_room stripe inside few = columns-most z.shape (bounds z.shape z.of_shape.taken) lost (nodes_few inside few) stripe
 
 pub longest_text_lem : (answer : Result Contents ℕ) (stripe : List ℕ) → length (printed answer stripe) ≤ longest_text
 unfolding printed
-longest_text_lem (Err q) stripe = omega (arith, refused-most q)
+longest_text_lem (Err q) stripe = omega (arith, refused_most q)
 longest_text_lem (Ok contents) stripe = go (contents_refusal contents) refl
   where
     go : (answer : Option ℕ) → contents_refusal contents ≡ answer → length (contents_text (contents_refusal contents) contents stripe) ≤ longest_text
     go none e = rw e (read-most contents stripe (none→taken contents e))
-    go (some q) e = rw e (omega (arith, refused-most q))
+    go (some q) e = rw e (omega (arith, refused_most q))
 
 -- and some text is as long as that: nodes 13 to 16 of 16 lost, and every byte of three digits
 pub longest_text-is : length (printed (Ok record { shape = shape 16 4; lost = 61440 }) (replicate 4096 100)) ≡ longest_text

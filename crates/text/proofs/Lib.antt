@@ -1,12 +1,14 @@
 -- Why printing keeps its promise.
 --   Turns    == the loops: the words of a list put in turn
 --   Digits   == a number in decimal
+--   Columns  == a node's bytes, as a part of the stripe
 --   Refusals == from what the tests find to the refusal
 --   Readers  == the text of what the pack reader answers
 --   Lengths  == how long the text is at most
 --   Settled  == the promise settles answer and text, and rules wrong answers out
 pub mod Turns
 pub mod Digits
+pub mod Columns
 pub mod Refusals
 pub mod Readers
 pub mod Lengths

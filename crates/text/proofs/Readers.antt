@@ -11,14 +11,13 @@ use Rattle.rules.proofs.Pieces.{flat_same}
 use Rattle.entries.specs.Pack.{nodes_of}
 use Rattle.entries.proofs.Sets.{listed_held}
 use Rattle.pack.specs.declared.answers.Contents.{Contents}
-use Rattle.pack.specs.declared.answers.Unpacked.TheVariants.{Accepted}
 use Rattle.pack.specs.Promise.{ReadMeets}
 use Rattle.pack.proofs.Passed.{accepted-passes, accepted-read}
 use Rattle.pack.proofs.Unpacking.{content-few}
 use Rattle.text.specs.Text.{spaced, spaced_all, line, shape_line, lost_line, column_line, read_text, contents_refusal, contents_text, printed}
 use Rattle.text.proofs.Refusals.{taken→none}
 
-module _ (pack before : List ℕ) (contents : Contents) (later : List ℕ) (p : ReadMeets pack before (Accepted contents) later) where
+module _ (pack before : List ℕ) (contents : Contents) (later : List ℕ) (p : ReadMeets pack before (Ok contents) later) where
   pub reader_calls_for_none : contents_refusal contents ≡ none
   reader_calls_for_none =
       let passes = accepted-passes pack before contents later p in

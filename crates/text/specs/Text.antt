@@ -27,10 +27,9 @@ use Rattle.rules.specs.declared.shapes.Shape.{Shape}
 use Rattle.rules.specs.Shape.{rows, accepted}
 use Rattle.rules.specs.Stripe.{column}
 use Rattle.rules.specs.Lost.{lost_count, bit_above}
-use Rattle.rules.specs.Refusal.{first_of, ◌given-when◌}
+use Rattle.rules.specs.declared.refusals.Refusal.{Refusal}
+use Rattle.rules.specs.Refusal.{first_of, ◌given-when◌, number_of}
 use Rattle.pack.specs.declared.answers.Contents.{Contents}
-use Rattle.pack.specs.declared.answers.Unpacked.{Unpacked}
-use Rattle.pack.specs.declared.answers.Unpacked.TheVariants as unpacked
 use Rattle.entries.specs.Pack.{nodes_of}
 
 abbrev pub letters : String → List ℕ
@@ -86,9 +85,9 @@ abbrev pub contents_text : Option ℕ → Contents → List ℕ → List ℕ
 contents_text none contents stripe = read_text contents.shape contents.lost stripe
 contents_text (some q) contents stripe = refused_line q
 
-abbrev pub numbered : Unpacked → Result Contents ℕ
-numbered (unpacked.Accepted contents) = Ok contents
-numbered (unpacked.Refused q) = Err q
+abbrev pub numbered : Result Contents Refusal → Result Contents ℕ
+numbered (Ok contents) = Ok contents
+numbered (Err q) = Err (number_of q)
 
 unfoldable pub printed : Result Contents ℕ → List ℕ → List ℕ
 printed (Ok contents) stripe = contents_text (contents_refusal contents) contents stripe

@@ -12,7 +12,7 @@ pub const LONGEST_TEXT: usize = 4168;
 pub type Page = ArrayString<LONGEST_TEXT>;
 
 // A space and a number below 1,000 in decimal.
-#[tactic(auto, unfolding(crate::specs::Text::spaced))]
+#[tactic(auto, using(std::proofs::lemmas::Grind::common_steps, crate::proofs::Digits::spaced_written))]
 pub fn push_number(page: &mut Page, x: usize)
     requires x_bound { x < 1000 }
     requires room { length page.old.bytes + length (spaced x) ≤ longest_text }
@@ -23,7 +23,7 @@ pub fn push_number(page: &mut Page, x: usize)
 }
 
 // Each byte of a list so.
-#[tactic(auto, unfolding(crate::specs::Text::spaced_all))]
+#[tactic(auto, using(std::proofs::lemmas::Grind::common_steps, rules::proofs::Pieces::flat_none, crate::proofs::Turns::turn_more, crate::proofs::Turns::turn_room), unfolding(crate::specs::Text::spaced_all))]
 pub fn push_bytes(page: &mut Page, list: &[u8])
     requires { length page.old.bytes + length (spaced_all list.now) ≤ longest_text }
     ensures { page.new.bytes ≡ page.old.bytes ++ spaced_all list.now }

@@ -13,6 +13,7 @@ use pack::{Contents, LARGEST_STRIPE};
 use rules::{Refusal, Sizes, check_len, measure};
 
 // The nodes of a set, in rising order.
+#[tactic(auto, using(std::proofs::lemmas::Grind::common_steps, crate::proofs::Turns::nodes_none, crate::proofs::Turns::nodes_more, crate::proofs::Turns::nodes_same, crate::proofs::Turns::nodes_all))]
 fn lost_nodes(sizes: Sizes, lost: u16) -> ArrayVec<u8, 16>
     ensures { result.items ≡ nodes_of sizes.shape lost }
 {
@@ -26,6 +27,7 @@ fn lost_nodes(sizes: Sizes, lost: u16) -> ArrayVec<u8, 16>
 }
 
 // The text of a refusal.
+#[tactic(auto, using(crate::proofs::Lengths::refused_most))]
 fn refused_page(q: u8) -> Page
     ensures { result.bytes ≡ refused_line q }
 {
@@ -35,6 +37,7 @@ fn refused_page(q: u8) -> Page
 }
 
 // The text of an accepted shape, and of a lost set that it can fill.
+#[tactic(auto, using(std::proofs::lemmas::Grind::common_steps, crate::proofs::Lengths::shape_room, crate::proofs::Lengths::lost_room, crate::proofs::Lengths::columns_room, entries::proofs::Sets::listed_held), unfolding(crate::specs::Text::read_text, crate::specs::Text::lost_line))]
 fn read_page(sizes: Sizes, lost: u16, stripe: &[u8; LARGEST_STRIPE]) -> Page
     requires inside { bit_above sizes.shape lost ≡ false }
     requires few { lost_count lost ≤ sizes.shape.r }
@@ -52,7 +55,8 @@ fn read_page(sizes: Sizes, lost: u16, stripe: &[u8; LARGEST_STRIPE]) -> Page
 #[tactic(auto, unfolding(crate::specs::Text::contents_refusal, rules::specs::Refusal::shape_refusal, rules::specs::Lost::bit_above, rules::specs::Lost::lost_count))]
 fn checked(contents: Contents) -> Result<Sizes, Refusal>
     ensures refused { refusal_of result ≡ contents_refusal contents }
-    ensures shape { IfOk result (λ sizes. sizes.shape ≡ contents.shape) }
+    ensures taken { IfOk result (λ sizes.
+        (sizes.shape ≡ contents.shape) × (bit_above sizes.shape contents.lost ≡ false) × (lost_count contents.lost ≤ sizes.shape.r)) }
 {
     let Contents { shape, lost } = contents;
     let Ok(sizes) = measure(shape) else {
@@ -68,7 +72,6 @@ fn checked(contents: Contents) -> Result<Sizes, Refusal>
 }
 
 // The text of a shape and a lost set. Those that no reader answers are printed as the refusal that they call for.
-
 fn contents_page(contents: Contents, stripe: &[u8; LARGEST_STRIPE]) -> Page
     ensures { result.bytes ≡ contents_text (contents_refusal contents) contents stripe.now }
 {
@@ -89,7 +92,8 @@ fn page_of(answer: Result<Contents, u8>, stripe: &[u8; LARGEST_STRIPE]) -> Page
     }
 }
 
-// Puts the text of an answer, which is a number where it is refused, and of the stripe that was written with it, at the front of the bytes lent for it, and answers its length.
+// Puts the text of an answer, which is a number where it is refused, and of the stripe that was written with it, at the front of the bytes lent for it, and
+// answers its length.
 #[tactic(auto, unfolding(crate::specs::Refusal::print_refusal))]
 pub fn print(answer: Result<Contents, u8>, stripe: &[u8], text: &mut [u8]) -> Result<usize, Refusal>
     ensures { PrintMeets answer stripe.now text.old result text.new }
