@@ -5,11 +5,12 @@ use mathlib.Core.Option.{Option, none, some}
 use Prim.Native.Nat.{ℕ}
 use native.Mathlib.Omega.{arith}
 use lib.ListN.{take, replicate, get_or}
+use Rattle.std.specs.Prelude.{Result, Ok, Err}
+use Rattle.rules.specs.declared.refusals.Refusal.{Refusal}
+use Rattle.rules.specs.Refusal.{number_of}
 use Rattle.entries.specs.Pack.{input_most}
 use Rattle.layout.proofs.Worked.{worked}
 use Rattle.pack.specs.declared.answers.Contents.{Contents}
-use Rattle.pack.specs.declared.answers.Unpacked.{Unpacked}
-use Rattle.pack.specs.declared.answers.Unpacked.TheVariants.{Accepted, Refused}
 use Rattle.pack.specs.Refusal.{stripe_most}
 use Rattle.pack.specs.Promise.{ReadMeets}
 use Rattle.pack.proofs.Settled.{read_settled, read_refuses}
@@ -43,15 +44,15 @@ pub shows_nothing : (input : List ℕ) → Shows input [] → ⊥
 unfolding printed first
 shows_nothing input p = go p.answer p.is
   where
-    go : (answer : Unpacked) → [] ≡ printed (numbered answer) p.stripe → ⊥
-    go (Accepted contents) e = first-text (contents_refusal contents) contents p.stripe (sym (ap first e))
-    go (Refused q) e = let f = sym (first-refused q) ∙ sym (ap first e) in omega arith
+    go : (answer : Result Contents Refusal) → [] ≡ printed (numbered answer) p.stripe → ⊥
+    go (Ok contents) e = first-text (contents_refusal contents) contents p.stripe (sym (ap first e))
+    go (Err q) e = let f = sym (first-refused (number_of q)) ∙ sym (ap first e) in omega arith
 
 -- document 01's own pack is refused
 pub shows_refusal : (q : ℕ) → Shows worked (refused_line q) → ⊥
 shows_refusal q p = go p.answer p.read p.is
   where
-    go : (answer : Unpacked) → ReadMeets worked (replicate stripe_most 0) answer p.stripe → refused_line q ≡ printed (numbered answer) p.stripe → ⊥
-    go (Accepted contents) read e =
+    go : (answer : Result Contents Refusal) → ReadMeets worked (replicate stripe_most 0) answer p.stripe → refused_line q ≡ printed (numbered answer) p.stripe → ⊥
+    go (Ok contents) read e =
         let f = sym (first-refused q) ∙ ap first e ∙ ap first (reader_printed worked (replicate stripe_most 0) contents p.stripe read p.stripe) ∙ first-read contents p.stripe in omega arith
-    go (Refused k) read e = read_refuses (replicate stripe_most 0) refl k p.stripe read
+    go (Err k) read e = read_refuses (replicate stripe_most 0) refl k p.stripe read
