@@ -56,7 +56,7 @@ module _ (found : Found) (pack before blank placed : List ℕ) (is : LayoutIs pa
       taken→fill found.shape lost placed
       (record { shape = is.taken; exact = long; none_above = inside; few = h })
 
-  pub refused_owed : (q : Refusal) (filled : List ℕ) → FillMeets found.shape lost placed (Err q) filled
+  refused_owed : (q : Refusal) (filled : List ℕ) → FillMeets found.shape lost placed (Err q) filled
       → FoundMeets found pack before (Err q) before
   refused_owed q filled p = record {
     many = λ h. ap Err (number_of-injective q TooManyLost (some-injective _ _ (p.refused 4 (too_many h))));
@@ -67,7 +67,7 @@ module _ (found : Found) (pack before blank placed : List ℕ) (is : LayoutIs pa
     kept = λ k e. refl;
   }
 
-  pub done_owed : (filled : List ℕ) → FillMeets found.shape lost placed (Ok tt) filled
+  done_owed : (filled : List ℕ) → FillMeets found.shape lost placed (Ok tt) filled
       → FoundMeets found pack before (Ok (record { shape = found.shape; lost = lost })) (filled ++ drop (stripe_length found.shape) before)
   done_owed filled p = record {
     many = λ h. absurd (not_many h);
@@ -88,3 +88,23 @@ module _ (found : Found) (pack before blank placed : List ℕ) (is : LayoutIs pa
 
       unpacks : Unpacks found.shape lost pack filled
       unpacks = filled→unpacks found pack blank placed is put filled (p.filled (few_enough (few (dec_le (suc found.shape.r) (lost_count lost)))) refl)
+
+-- the same of the values that the code has
+module _ {found : Found} {pack blank placed filled : List ℕ} {set : ℕ} {answer : Result (Unit {0}) Refusal} (is : LayoutIs pack found)
+    (exact : length blank ≡ stripe_length found.shape) (put : Placed found pack blank placed) (lost-is : set ≡ others found.shape found.held)
+    (met : FillMeets found.shape set placed answer filled) where
+  met_as : (given : Result (Unit {0}) Refusal) → answer ≡ given → FillMeets found.shape (others found.shape found.held) placed given filled
+  met_as given e =
+      subst (λ lost. FillMeets found.shape lost placed given filled) lost-is (subst (λ a. FillMeets found.shape set placed a filled) e met)
+
+  pub found_refused : {before : List ℕ} {given : Result Contents Refusal} {q : Refusal} → answer ≡ Err q → given ≡ Err q
+      → FoundMeets found pack before given before
+  found_refused {before} {given} {q} e same =
+      subst (λ a. FoundMeets found pack before a before) (sym same) (refused_owed found pack before blank placed is exact put q filled (met_as (Err q) e))
+
+  pub found_filled : {before later : List ℕ} → answer ≡ Ok tt → later ≡ filled ++ drop (stripe_length found.shape) before
+      → FoundMeets found pack before (Ok (record { shape = found.shape; lost = set })) later
+  found_filled {before} {later} e same =
+      subst (λ lost. FoundMeets found pack before (Ok (record { shape = found.shape; lost = lost })) later) (sym lost-is)
+      (subst (FoundMeets found pack before (Ok (record { shape = found.shape; lost = others found.shape found.held }))) (sym same)
+      (done_owed found pack before blank placed is exact put filled (met_as (Ok tt) e)))
