@@ -49,9 +49,6 @@ thirds points = 0 ∷ 0 ∷ 0 ∷ get_or points 2 0 ∷ []
 no_gain : (x y : ℕ) → add x (mul 0 y) ≡ x
 no_gain x y = ap (add x) (zero-mul y) ∙ add-zero x
 
-pub gained_none : (x p : ℕ) → add x (mul p 0) ≡ x
-gained_none x p = ap (add x) (mul-zero p) ∙ add-zero x
-
 module _ (points : List ℕ) (f g h e : ℕ → ℕ)
     (one : (i : ℕ) → i < 4 → g i ≡ staged (firsts points) f i)
     (two : (i : ℕ) → i < 4 → h i ≡ staged (seconds points) g i)

@@ -26,17 +26,17 @@ dotted-set row found h q l exact empty =
     (λ j ne. ap (mul (row j)) (get_or-set_other found h j q 0 (λ e. omega (arith, ne))))
     ∙ ap (λ x. add _ (mul (row h) x)) (get_or-set_same found h q 0 (omega (arith, exact)))
 
-pub record Unfinished (count i : ℕ) (rows : List (List ℕ)) (given found : List ℕ) : Type 0 where
+pub record Unfinished (count i : ℕ) (rows given : List (List ℕ)) (found : List ℕ) : Type 0 where
   pub most : i ≤ count
   pub exact : length found ≡ 4
   pub bytes : (j : ℕ) → get_or found j 0 < 256
   pub before : (j : ℕ) → j < i → get_or found j 0 ≡ 0
   pub rest : (j : ℕ) → count ≤ j → get_or found j 0 ≡ 0
-  pub sums : (h : ℕ) → i ≤ h → h < count → dotted (entry rows h) (λ j. get_or found j 0) ≡ get_or given h 0
+  pub sums : (h : ℕ) → i ≤ h → h < count → dotted (entry rows h) (λ j. get_or found j 0) ≡ entry given h 0
 
-module _ (count i h q : ℕ) (rows : List (List ℕ)) (given found : List ℕ) (few : count ≤ 4) (triangle : Triangle count rows) (next : suc h ≡ i)
+module _ (count i h q : ℕ) (rows given : List (List ℕ)) (found : List ℕ) (few : count ≤ 4) (triangle : Triangle count rows) (next : suc h ≡ i)
     (u : Unfinished count i rows given found) (small : q < 256)
-    (value : mul q (entry rows h h) ≡ add (get_or given h 0) (dotted (entry rows h) (λ j. get_or found j 0))) where
+    (value : mul q (entry rows h h) ≡ add (entry given h 0) (dotted (entry rows h) (λ j. get_or found j 0))) where
   h-few : h < 4
   h-few = omega (arith, u.most)
 
@@ -59,14 +59,14 @@ module _ (count i h q : ℕ) (rows : List (List ℕ)) (given found : List ℕ) (
   around : (x y : ℕ) → add x (add y x) ≡ y
   around x y = simp sums
 
-  later-sums : (k : ℕ) → h ≤ k → k < count → dotted (entry rows k) (λ j. get_or (set found h q) j 0) ≡ get_or given k 0
+  later-sums : (k : ℕ) → h ≤ k → k < count → dotted (entry rows k) (λ j. get_or (set found h q) j 0) ≡ entry given k 0
   later-sums k low high = row-sum k ∙ go (eq-or-lt_of_le low)
     where
-      go : (h ≡ k) ⊎ (h < k) → add (dotted (entry rows k) (λ j. get_or found j 0)) (mul (entry rows k h) q) ≡ get_or given k 0
-      go (inl e) = rw (sym e) (ap (add _) (mul_comm (entry rows h h) q ∙ value) ∙ around _ (get_or given h 0))
+      go : (h ≡ k) ⊎ (h < k) → add (dotted (entry rows k) (λ j. get_or found j 0)) (mul (entry rows k h) q) ≡ entry given k 0
+      go (inl e) = rw (sym e) (ap (add _) (mul_comm (entry rows h h) q ∙ value) ∙ around _ (entry given h 0))
       go (inr l) =
           ap₂ add (u.sums k (omega arith) high) (ap (λ x. mul x q) (triangle.below k h high l) ∙ zero-mul q)
-          ∙ add-zero (get_or given k 0)
+          ∙ add-zero (entry given k 0)
 
   pub unfinished_step : Unfinished count h rows given (set found h q)
   unfinished_step = record {

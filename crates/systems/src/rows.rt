@@ -1,7 +1,7 @@
 // What the row solver does with rows of numbers: the table of powers, a stage of the elimination, back substitution. Functions of this module may have a
 // `requires`; none can be named from outside the crate.
 ghost use Rattle.std.specs.Prelude.{◌≤◌};
-ghost use Rattle.systems.specs.Kernel.{PowersAre, Products, Gained, RowsStaged, GivenStaged, DotIs, Triangle, Substituted};
+ghost use Rattle.systems.specs.Kernel.{PowersAre, Products, Gained, RowsStaged, DotIs, Triangle, Substituted};
 
 use field::times;
 use tables::divide;
@@ -14,44 +14,37 @@ fn products(xs: [u8; 4], ys: [u8; 4]) -> [u8; 4]
 }
 
 // The table: row t has every point to the power t. Power 0 of 0 is 1.
-#[tactic(auto, using(distinct::proofs::Indices::four), unfolding(field::specs::Number::power))]
 pub fn powers(points: [u8; 4]) -> [[u8; 4]; 4]
     ensures { PowersAre points result }
 {
-    let ones = [1; 4];
-    let firsts = products(ones, points);
-    let squares = products(firsts, points);
+    let squares = products(points, points);
     let cubes = products(squares, points);
-    [ones, firsts, squares, cubes]
+    [[1; 4], points, squares, cubes]
 }
 
-// Four numbers, each plus its factor times the number beside it.
+// A row plus p times the row above it.
 #[tactic(auto, unfolding(field::specs::Number::add))]
-fn gained(row: [u8; 4], beside: [u8; 4], factors: [u8; 4]) -> [u8; 4]
-    ensures { Gained factors beside row result }
+fn gained<const N: usize>(mut row: [u8; N], above: [u8; N], p: u8) -> [u8; N]
+    ensures { Gained N p above.entry row.entry result }
 {
-    std::array::from_fn(|j| row[j] ^ times(factors[j], beside[j]))
+    for j in 0..N {
+        row[j] ^= times(p, above[j]);
+    }
+    row
 }
 
 // A stage of the elimination: each row but the first gets its factor times the row above it, as that was before the stage.
+// The numbers given are a table of one column.
 #[tactic(auto, using(distinct::proofs::Indices::four), unfolding(crate::specs::Kernel::staged))]
-pub fn stage(rows: [[u8; 4]; 4], factors: [u8; 4]) -> [[u8; 4]; 4]
-    ensures { RowsStaged factors rows result }
+pub fn stage<const N: usize>(rows: [[u8; N]; 4], factors: [u8; 4]) -> [[u8; N]; 4]
+    ensures { RowsStaged N factors rows.entry result }
 {
     [
         rows[0],
-        gained(rows[1], rows[0], [factors[1]; 4]),
-        gained(rows[2], rows[1], [factors[2]; 4]),
-        gained(rows[3], rows[2], [factors[3]; 4]),
+        gained(rows[1], rows[0], factors[1]),
+        gained(rows[2], rows[1], factors[2]),
+        gained(rows[3], rows[2], factors[3]),
     ]
-}
-
-// The same stage for the numbers given.
-#[tactic(auto, using(distinct::proofs::Indices::four, crate::proofs::Elimination::gained_none), unfolding(crate::specs::Kernel::staged))]
-pub fn given_stage(given: [u8; 4], factors: [u8; 4]) -> [u8; 4]
-    ensures { GivenStaged factors given result }
-{
-    gained(given, [0, given[0], given[1], given[2]], factors)
 }
 
 // The sum of four products.
@@ -64,7 +57,7 @@ fn dot(row: [u8; 4], found: [u8; 4]) -> u8
 }
 
 // Back substitution. The unknowns that aren't found yet are 0, and so are those past `count`: neither counts in a row's sum.
-pub fn substituted(count: usize, rows: [[u8; 4]; 4], given: [u8; 4]) -> [u8; 4]
+pub fn substituted(count: usize, rows: [[u8; 4]; 4], given: [[u8; 1]; 4]) -> [u8; 4]
     requires count_bound { count ≤ 4 }
     requires triangle { Triangle count rows }
     ensures { Substituted count rows given result }
@@ -72,7 +65,7 @@ pub fn substituted(count: usize, rows: [[u8; 4]; 4], given: [u8; 4]) -> [u8; 4]
     let mut found = [0; 4];
     for h in (0..count).rev() {
         let row = rows[h];
-        found[h] = divide(given[h] ^ dot(row, found), row[h]).unwrap();
+        found[h] = divide(given[h][0] ^ dot(row, found), row[h]).unwrap();
     }
     found
 }

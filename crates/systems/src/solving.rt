@@ -3,7 +3,7 @@
 // from the last to the first. Everything is four wide; what lies past `count` has no influence on what is found.
 ghost use Rattle.systems.specs.Promise.{SolveIs};
 
-use crate::rows::{given_stage, powers, stage, substituted};
+use crate::rows::{powers, stage, substituted};
 use distinct::apart;
 
 // The unknowns whose sums of powers are the numbers given: for t from 0 to count − 1, the sum of point j to the power t times unknown j is given[t]. Zeros
@@ -18,6 +18,7 @@ pub fn solve(count: usize, points: [u8; 4], given: [u8; 4]) -> [u8; 4]
     let second = [0, 0, points[1], points[1]];
     let third = [0, 0, 0, points[2]];
     let rows = stage(stage(stage(powers(points), first), second), third);
-    let sides = given_stage(given_stage(given_stage(given, first), second), third);
+    let column = [[given[0]], [given[1]], [given[2]], [given[3]]];
+    let sides = stage(stage(stage(column, first), second), third);
     substituted(count, rows, sides)
 }
