@@ -7,14 +7,9 @@
 --   helper_at failed j == the node other than the failed one with j such nodes before it
 --   digest_to xs i == 31 times the one before plus byte i − 1, modulo 65,521, from 0
 --   digest xs     == the digest of all bytes of a buffer
---   is_done answer, is_whole answer == the answer as a test
 --   one_when a b c == 1 where all three hold, and 0 otherwise
 use Rattle.std.specs.Prelude.{◌≡◌, Bool, true, false, cond, ◌&&◌, List, ℕ, zero, suc, ◌+◌, ◌*◌, ◌/◌, ◌%◌, ◌<◌, ltb, length, get_or}
 use Rattle.rules.specs.Lost.{is_lost}
-use Rattle.yebarg.specs.declared.answers.Outcome.{Outcome}
-use Rattle.yebarg.specs.declared.answers.Outcome.TheVariants as outcome
-use Rattle.sums.specs.declared.answers.Tested.{Tested}
-use Rattle.sums.specs.declared.answers.Tested.TheVariants as tests
 
 unfoldable pub record_byte : ℕ → ℕ
 record_byte i = (i % 256 * 37 + 11) % 256
@@ -42,15 +37,6 @@ digest_to xs (suc i) = (digest_to xs i * 31 + get_or xs i 0) % 65521
 
 unfoldable pub digest : List ℕ → ℕ
 digest xs = digest_to xs (length xs)
-
-abbrev pub is_done : Outcome → Bool
-is_done outcome.Done = true
-is_done (outcome.Refused q) = false
-
-abbrev pub is_whole : Tested → Bool
-is_whole tests.Whole = true
-is_whole (tests.Fails f) = false
-is_whole (tests.Refused q) = false
 
 unfoldable pub one_when : Bool → Bool → Bool → ℕ
 one_when a b c = cond (a && b && c) 1 0
