@@ -4,10 +4,10 @@ use mathlib.Core.Path.{◌≡◌, refl, sym, ◌∙◌}
 use mathlib.Core.Bool.{Bool, true, false, cond, not}
 use mathlib.Core.List.{List}
 use mathlib.Core.Option.{Option, none, some, none-ne-some, some-ne-none}
-use Prim.Native.Nat.{ℕ, ◌<◌, ◌≤◌}
+use Prim.Native.Nat.{ℕ, ◌≤◌}
 use lib.Dec.{eqb, ltb}
 use lib.ListN.{length}
-use borrow.Author.Tests.{ltb-false, eqb-true, lt-ltb, le-ltb, eq-eqb, ne_eqb}
+use borrow.Author.Tests.{ltb-false, eqb-true, le-ltb, eq-eqb, ne_eqb}
 use Rattle.rules.specs.declared.shapes.Shape.{Shape}
 use Rattle.rules.specs.Shape.{accepted, rows}
 use Rattle.rules.specs.Stripe.{stripe_length, data_length}
@@ -17,14 +17,6 @@ use Rattle.rules.proofs.Checks.{neither}
 use Rattle.rules.proofs.Accepted.{is-accepted}
 use Rattle.yebarg.specs.Refusal.{lay_refusal, read_back_refusal, cut_refusal}
 use Rattle.yebarg.specs.Promise.{Writes}
-
-pub not_node-low : (sh : Shape) (i : ℕ) → i < 1 → not_node sh i ≡ true
-unfolding not_node
-not_node-low sh i h = simp (lt-ltb i 1 h)
-
-pub not_node_high : (sh : Shape) (i : ℕ) → 1 ≤ i → sh.n < i → not_node sh i ≡ true
-unfolding not_node
-not_node_high sh i h k = simp (le-ltb i 1 h, lt-ltb sh.n i k)
 
 pub a-node : (sh : Shape) (i : ℕ) → 1 ≤ i → i ≤ sh.n → not_node sh i ≡ false
 unfolding not_node
