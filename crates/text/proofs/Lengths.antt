@@ -1,5 +1,6 @@
 -- How long the text is at most: every text of an answer fits into the bytes lent for it, and one of them fills them. In order: the lines;
--- the text.
+-- the text; line by line, of sizes and a lost set that they can fill; every text.
+--   rooms == there is room for each line
 use mathlib.Core.Path.{◌≡◌, refl, ap, ◌∙◌}
 use mathlib.Core.List.{List, [], ◌∷◌, ◌++◌, flat_map}
 use mathlib.Core.Option.{Option, none, some}
@@ -10,6 +11,7 @@ use lib.Count.{ones, ones_in}
 use Rattle.std.specs.Prelude.{Result, Ok, Err}
 use lib.ListN.{length, drop, replicate, length-append, length-take}
 use mathlib.Core.Bool.{false}
+use Rattle.std.proofs.lemmas.Grind.{common_steps}
 use Rattle.rules.specs.declared.shapes.Shape.{Shape}
 use Rattle.rules.specs.declared.shapes.Sizes.{Sizes}
 use Rattle.rules.specs.Shape.{group_size, groups, rows, accepted}
@@ -122,6 +124,8 @@ module _ (z : Sizes) (lost : ℕ) where
   pub columns_room : (stripe : List ℕ) → bit_above z.shape lost ≡ false → lost_count lost ≤ z.shape.r
       → length (flat_map (column_line z.shape stripe) (nodes_of z.shape lost)) ≤ 4136
   columns_room stripe inside few = columns-most z.shape (bounds z.shape z.of_shape.taken) lost (nodes_few inside few) stripe
+
+pub ruleset rooms = (common_steps, shape_room, lost_room, columns_room, listed_held)
 
 pub longest_text_lem : (answer : Result Contents ℕ) (stripe : List ℕ) → length (printed answer stripe) ≤ longest_text
 unfolding printed

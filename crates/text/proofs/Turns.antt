@@ -1,5 +1,7 @@
 -- Lists gone through in turn. In order: a list of numbers, spaced; the words of each entry after those before it, and that there is room for them; an entry
 -- is listed; the nodes of a set.
+--   in_turn       == what a loop over a list is proved by
+--   nodes_in_turn == what a loop over the nodes of a set is proved by
 use mathlib.Core.Path.{◌≡◌, refl, sym, ap, ◌∙◌}
 use mathlib.Core.List.{List, [], ◌∷◌, ◌++◌, flat_map}
 use mathlib.Core.Logic.{inl, inr}
@@ -8,9 +10,10 @@ use native.Mathlib.Numerals.{add-one}
 use native.Mathlib.Omega.{arith}
 use lib.ListN.{length, get_or, take, drop, length-append, take-append-drop}
 use lib.Seq.{take-suc}
+use Rattle.std.proofs.lemmas.Grind.{common_steps}
 use Rattle.rules.specs.declared.shapes.Shape.{Shape}
 use Rattle.rules.specs.Rising.{Listed}
-use Rattle.rules.proofs.Pieces.{flat_append, flat_more}
+use Rattle.rules.proofs.Pieces.{flat_none, flat_append, flat_more}
 use Rattle.entries.specs.Pack.{nodes_of}
 use Rattle.entries.proofs.Sets.{nodes_to, nodes-all, nodes_start, nodes-take, nodes_skip, in_set, not_in_set}
 use Rattle.text.specs.Text.{spaced, spaced_all}
@@ -36,6 +39,8 @@ module _ (f : ℕ → List ℕ) (list : List ℕ) where
         length-append (flat_map f (take i list)) (f (get_or list i 0)),
       )
 
+pub ruleset in_turn = (common_steps, flat_none, turn_more, turn_room)
+
 pub listed_at : (list : List ℕ) (i x : ℕ) → i < length list → x ≡ get_or list i 0 → Listed x list
 listed_at [] i x inside is = absurd (omega arith)
 listed_at (y ∷ list) zero x inside is = inl is
@@ -53,3 +58,5 @@ module _ (set : ℕ) where
 
   pub nodes_all : (sh : Shape) (i : ℕ) → i ≡ sh.n → nodes_to set i ≡ nodes_of sh set
   nodes_all sh i is = ap (nodes_to set) is ∙ sym (nodes-all sh set)
+
+pub ruleset nodes_in_turn = (common_steps, nodes_none, nodes_more, nodes_same, nodes_all)

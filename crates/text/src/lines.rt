@@ -57,7 +57,7 @@ pub fn push_lost(page: &mut Page, nodes: &[u8])
 }
 
 // `column`, a node and its bytes, which are a part of the stripe.
-#[tactic(auto, using(std::proofs::lemmas::Grind::common_steps, crate::proofs::Columns::column_within, crate::proofs::Columns::column_is), unfolding(crate::specs::Text::column_line, crate::specs::Text::line))]
+#[tactic(auto, using(crate::proofs::Columns::a_column), unfolding(crate::specs::Text::column_line, crate::specs::Text::line))]
 fn push_column(page: &mut Page, sizes: Sizes, stripe: &[u8; LARGEST_STRIPE], node: usize)
     requires inside { (1 ≤ node) × (node ≤ sizes.shape.n) }
     requires room { length page.old.bytes + length (column_line sizes.shape stripe.now node) ≤ longest_text }
@@ -72,7 +72,7 @@ fn push_column(page: &mut Page, sizes: Sizes, stripe: &[u8; LARGEST_STRIPE], nod
 }
 
 // A line for the column of each node.
-#[tactic(auto, using(std::proofs::lemmas::Grind::common_steps, rules::proofs::Pieces::flat_none, crate::proofs::Turns::turn_more, crate::proofs::Turns::turn_room))]
+#[tactic(auto, using(crate::proofs::Turns::in_turn))]
 pub fn push_columns(page: &mut Page, sizes: Sizes, stripe: &[u8; LARGEST_STRIPE], nodes: &[u8])
     requires inside { (i : ℕ) → Listed i nodes.now → (1 ≤ i) × (i ≤ sizes.shape.n) }
     requires room { length page.old.bytes + length (flat_map (column_line sizes.shape stripe.now) nodes.now) ≤ longest_text }

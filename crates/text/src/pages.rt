@@ -23,7 +23,7 @@ pub fn push_number(page: &mut Page, x: usize)
 }
 
 // Each byte of a list so.
-#[tactic(auto, using(std::proofs::lemmas::Grind::common_steps, rules::proofs::Pieces::flat_none, crate::proofs::Turns::turn_more, crate::proofs::Turns::turn_room), unfolding(crate::specs::Text::spaced_all))]
+#[tactic(auto, using(crate::proofs::Turns::in_turn), unfolding(crate::specs::Text::spaced_all))]
 pub fn push_bytes(page: &mut Page, list: &[u8])
     requires { length page.old.bytes + length (spaced_all list.now) ≤ longest_text }
     ensures { page.new.bytes ≡ page.old.bytes ++ spaced_all list.now }

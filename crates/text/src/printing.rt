@@ -13,7 +13,7 @@ use pack::{Contents, LARGEST_STRIPE};
 use rules::{Refusal, Sizes, check_len, measure};
 
 // The nodes of a set, in rising order.
-#[tactic(auto, using(std::proofs::lemmas::Grind::common_steps, crate::proofs::Turns::nodes_none, crate::proofs::Turns::nodes_more, crate::proofs::Turns::nodes_same, crate::proofs::Turns::nodes_all))]
+#[tactic(auto, using(crate::proofs::Turns::nodes_in_turn))]
 fn lost_nodes(sizes: Sizes, lost: u16) -> ArrayVec<u8, 16>
     ensures { result.items ≡ nodes_of sizes.shape lost }
 {
@@ -37,7 +37,7 @@ fn refused_page(q: u8) -> Page
 }
 
 // The text of an accepted shape, and of a lost set that it can fill.
-#[tactic(auto, using(std::proofs::lemmas::Grind::common_steps, crate::proofs::Lengths::shape_room, crate::proofs::Lengths::lost_room, crate::proofs::Lengths::columns_room, entries::proofs::Sets::listed_held), unfolding(crate::specs::Text::read_text, crate::specs::Text::lost_line))]
+#[tactic(auto, using(crate::proofs::Lengths::rooms), unfolding(crate::specs::Text::read_text, crate::specs::Text::lost_line))]
 fn read_page(sizes: Sizes, lost: u16, stripe: &[u8; LARGEST_STRIPE]) -> Page
     requires inside { bit_above sizes.shape lost ≡ false }
     requires few { lost_count lost ≤ sizes.shape.r }
