@@ -1,4 +1,4 @@
--- What the entries owe. In order: refusal 4 of `fill`; `fill_parity` past its tests, from what `fill_one` answers.
+-- What the entries owe. In order: refusal 4 of `fill`; `fill_parity` past its tests, from what `Chosen::fill` answers.
 use mathlib.Core.Path.{◌≡◌, sym, ap, ◌∙◌}
 use mathlib.Core.Bool.{Bool, ◌&&◌, and-true}
 use mathlib.Core.List.{List}

@@ -1,8 +1,8 @@
 -- What the private functions of filling do, each result said whole. Nodes count from 0 here, as in `theory`; `chosen flags` is the set of the nodes whose flag
 -- is set.
---   Standing sh count list b == `stands`: true exactly where all r equations were used or the stripe is whole
---   FilledOne sh flags count list answer later == `fill_in` and `fill_one`: the chosen columns are filled; or refusal 5, nothing fills them and nothing is
---                         written, which isn't so where all r equations were used
+--   Standing sh count list b == `Chosen::stands`: true exactly where all r equations were used or the stripe is whole
+--   FilledOne sh flags count list answer later == `Chosen::fill_in`, `Chosen::fill`: the chosen columns are filled; or refusal 5, nothing fills them and
+--                         nothing is written, which isn't so where all r equations were used
 use Rattle.std.specs.Prelude.{◌≡◌, Bool, true, false, List, ◌⊎◌, ℕ, ◌-◌, Result}
 use Rattle.std.proofs.Math.Option.{none, some}
 use Rattle.rules.specs.declared.refusals.Refusal.{Refusal}

@@ -12,48 +12,54 @@ use lost::{copy_columns, flags_of, others_of, parity_flags};
 use rules::{Refusal, Shape, Sizes, check_len, measure};
 use sums::test;
 
-// Does the stripe, which meets as many equations as columns are lost, meet all? With r lost it does; with fewer they are tested.
-#[tactic(auto, unfolding(sums::specs::Refusal::test_refusal, rules::specs::Refusal::shape_refusal))]
-fn stands(stripe: &[u8], z: Sizes, count: usize) -> bool
-    requires stripe_len { length stripe.now ≡ stripe_length z.shape }
-    ensures { Standing z.shape count stripe.now result }
-{
-    count == z.shape.r || test(z.shape, stripe).unwrap().is_none()
-}
-
-// Fills the lost columns of one stripe, in scratch as long; refused where no whole stripe has its survivors. Nothing is written before it is known that the
-// stripe can be filled, and no old byte of a lost column is read.
-#[tactic(auto, unfolding(rules::specs::Stripe::stripe_length))]
-fn fill_in(
-    scratch: &mut [u8],
-    stripe: &mut [u8],
+// The columns to be filled of one stripe: at most r, and none above n.
+#[derive(Clone, Copy)]
+struct Chosen {
     z: Sizes,
     flags: [bool; 16],
     count: usize,
-) -> Result<(), Refusal>
-    requires scratch_len { length scratch.old ≡ stripe_length z.shape }
-    requires stripe_len { length stripe.old ≡ stripe_length z.shape }
-    requires count_value { (count ≡ count_of z.shape.n (chosen flags)) × (count ≤ z.shape.r) × NoneFrom z.shape.n flags }
-    ensures { FilledOne z.shape flags count stripe.old result stripe.new }
-{
-    let kept = others_of(flags);
-    copy_columns(scratch, stripe, kept, z.shape.n, z.l).unwrap();
-    fill_levels(z.shape, flags, scratch).unwrap();
-    if !stands(scratch, z, count) {
-        return Err(Refusal::NoWholeStripe);
-    }
-    copy_columns(stripe, scratch, flags, z.shape.n, z.l).unwrap();
-    Ok(())
+    ghost counted: { count ≡ count_of z.shape.n (chosen flags) },
+    ghost few: { count ≤ z.shape.r },
+    ghost none_above: { NoneFrom z.shape.n flags },
 }
 
-// The same, with scratch of its own.
-fn fill_one(stripe: &mut [u8], z: Sizes, flags: [bool; 16], count: usize) -> Result<(), Refusal>
-    requires stripe_len { length stripe.old ≡ stripe_length z.shape }
-    requires count_value { (count ≡ count_of z.shape.n (chosen flags)) × (count ≤ z.shape.r) × NoneFrom z.shape.n flags }
-    ensures { FilledOne z.shape flags count stripe.old result stripe.new }
-{
-    let mut scratch = [0u8; 4096];
-    fill_in(&mut scratch[..z.stripe_len()], stripe, z, flags, count)
+impl Chosen {
+    // Does the stripe, which meets as many equations as columns are chosen, meet all? With r of them it does; with fewer they are tested.
+    #[tactic(auto, unfolding(sums::specs::Refusal::test_refusal, rules::specs::Refusal::shape_refusal))]
+    fn stands(&self, stripe: &[u8]) -> bool
+        requires { length stripe.now ≡ stripe_length self.now.z.shape }
+        ensures { Standing self.now.z.shape self.now.count stripe.now result }
+    {
+        self.count == self.z.shape.r || test(self.z.shape, stripe).unwrap().is_none()
+    }
+
+    // Fills the chosen columns, in scratch as long; refused where no whole stripe has the other ones. Nothing is written before it is known that the
+    // stripe can be filled, and no old byte of a chosen column is read.
+    #[tactic(auto, unfolding(rules::specs::Stripe::stripe_length))]
+    fn fill_in(&self, scratch: &mut [u8], stripe: &mut [u8]) -> Result<(), Refusal>
+        requires scratch_len { length scratch.old ≡ stripe_length self.now.z.shape }
+        requires stripe_len { length stripe.old ≡ stripe_length self.now.z.shape }
+        ensures { FilledOne self.now.z.shape self.now.flags self.now.count stripe.old result stripe.new }
+    {
+        let Sizes { shape, l, .. } = self.z;
+        let kept = others_of(self.flags);
+        copy_columns(scratch, stripe, kept, shape.n, l).unwrap();
+        fill_levels(shape, self.flags, scratch).unwrap();
+        if !self.stands(scratch) {
+            return Err(Refusal::NoWholeStripe);
+        }
+        copy_columns(stripe, scratch, self.flags, shape.n, l).unwrap();
+        Ok(())
+    }
+
+    // The same, with scratch of its own.
+    fn fill(&self, stripe: &mut [u8]) -> Result<(), Refusal>
+        requires { length stripe.old ≡ stripe_length self.now.z.shape }
+        ensures { FilledOne self.now.z.shape self.now.flags self.now.count stripe.old result stripe.new }
+    {
+        let mut scratch = [0u8; 4096];
+        self.fill_in(&mut scratch[..self.z.stripe_len()], stripe)
+    }
 }
 
 // Fills the lost columns, bit i − 1 of `lost` for node i, so that the stripe is whole.
@@ -72,7 +78,12 @@ pub fn fill(shape: Shape, lost: u16, stripe: &mut [u8]) -> Result<(), Refusal>
     if count > z.shape.r {
         return Err(Refusal::TooManyLost);
     }
-    fill_one(stripe, z, flags_of(lost), count)
+    let chosen = Chosen {
+        z,
+        flags: flags_of(lost),
+        count,
+    };
+    chosen.fill(stripe)
 }
 
 // Fills the parity columns, so that the stripe is whole. With r columns lost it always can be.
@@ -84,5 +95,10 @@ pub fn fill_parity(shape: Shape, stripe: &mut [u8]) -> Result<(), Refusal>
         return Err(Refusal::BadShape);
     };
     check_len(stripe, z.stripe_len())?;
-    fill_one(stripe, z, parity_flags(z.k, z.shape.n), z.shape.r)
+    let parity = Chosen {
+        z,
+        flags: parity_flags(z.k, z.shape.n),
+        count: z.shape.r,
+    };
+    parity.fill(stripe)
 }

@@ -1,4 +1,4 @@
--- `fill::stands` meets its contract: with fewer than r lost it is the answer of `test`.
+-- `Chosen::stands` meets its contract: with fewer than r lost it is the answer of `test`.
 use Rattle.std.proofs.Common.{◌≡◌, ℕ, List, Bool, true, false, not, Ok, Option, Some, None, is_some, sym, subst, arith}
 use mathlib.Core.Bool.{true≢false}
 use mathlib.Core.Logic.{inr}
@@ -7,7 +7,7 @@ use Rattle.rules.proofs.Weighing.{whole_or_fails}
 use Rattle.sums.specs.declared.answers.Failure.{Failure}
 use Rattle.sums.specs.Promise.{TestMeets}
 use Rattle.fill.specs.Kernel.{Standing}
-use Rattle.fill.proofs.filling.stands.Goals as goal
+use Rattle.fill.proofs.filling.Chosen.stands.Goals as goal
 
 -- no failure is that it is whole
 none_stands : (sh : Shape) (list : List ℕ) (count : ℕ) → (count ≡ sh.r → ⊥) → (failure : Option Failure) → TestMeets sh list (Ok failure)
@@ -25,7 +25,7 @@ none_stands sh list count fewer (Some f) p false e = record {
 none_stands sh list count fewer None p false e = absurd (true≢false (sym e))
 none_stands sh list count fewer (Some f) p true e = absurd (true≢false e)
 
-pub returns-else-count-z : goal.returns-else-count-z
-returns-else-count-z c =
-    none_stands c.args.z.shape c.args.stripe.now c.args.count (λ e. omega (arith, e)) c.unwrap.result
-    (subst (TestMeets c.args.z.shape c.args.stripe.now) c.unwrap.ensures c.test.ensures) c.is_none.result c.is_none.ensures
+pub returns-else-self : goal.returns-else-self
+returns-else-self c =
+    none_stands c.args.self.now.z.shape c.args.stripe.now c.args.self.now.count (λ e. omega (arith, e)) c.unwrap.result
+    (subst (TestMeets c.args.self.now.z.shape c.args.stripe.now) c.unwrap.ensures c.test.ensures) c.is_none.result c.is_none.ensures
