@@ -52,6 +52,9 @@ first-none {pack} None is h = go (is_shorter pack) refl
     go true q = absurd (none-some 1 (is.short q))
     go false q = (q, found-none _ (is.there q))
 
+pub unfound_there : {pack : List ℕ} {answer : Option ℕ} → FirstBadIs pack answer → is_some answer ≡ false → is_shorter pack ≡ false
+unfound_there {answer = answer} is h = (first-none answer is h).0
+
 pub is-formed : {held : ℕ} (pack : List ℕ) → EntriesGood pack → HeldIs pack held → HeldOfIs pack held
 is-formed pack way is = record { formed = λ w. is; unformed = λ out. absurd (out way) }
 

@@ -51,6 +51,7 @@ pub fn first_bad_entry(pack: &[u8]) -> Option<usize>
 }
 
 // The set of the entries' nodes: bit i − 1 for node i. The empty set where the pack is shorter than its entries, an entry is bad, or n is above sixteen.
+#[tactic(auto, using(crate::proofs::Checking::entries_there, crate::proofs::Checking::header_there, crate::proofs::Checking::unfound_there, crate::proofs::Checking::held_start))]
 pub fn held_of(pack: &[u8]) -> u16
     ensures { HeldOfIs pack.now result }
 {

@@ -5,14 +5,13 @@ use mathlib.Core.Bool.{false}
 use Prim.Native.Nat.{◌≤◌, ◌+◌, ◌-◌, ◌*◌, ◌%◌, ◌^◌}
 use native.Mathlib.Nat.{pow-le-pow_right}
 use native.Mathlib.Omega.{arith}
-use lib.ListN.{length, get_or}
 use Rattle.entries.specs.Pack.{entry_at}
 use Rattle.entries.specs.Parts.{node_in}
 use Rattle.entries.specs.Refusal.{first_bad_entry}
 use Rattle.entries.specs.Promise.{is_shorter, EntriesGood}
 use Rattle.entries.proofs.Positions.{node_in_lem}
 use Rattle.entries.proofs.Good.{GoodEntry}
-use Rattle.entries.proofs.Checking.{entries_there, first-none, is-formed, good_at, HeldTo, held_start, held_more, held_step, held_all}
+use Rattle.entries.proofs.Checking.{first-none, is-formed, good_at, HeldTo, held_more, held_step, held_all}
 use Rattle.entries.proofs.entries.held_of.Goals as goal
 use Rattle.entries.proofs.entries.held_of.Goals.{Else-is_some, Else-pack-gt16, In-loop-e}
 
@@ -20,19 +19,10 @@ use Rattle.entries.proofs.entries.held_of.Goals.{Else-is_some, Else-pack-gt16, I
 past : (c : Else-is_some) → (is_shorter c.args.pack.now ≡ false) × (first_bad_entry c.args.pack.now ≡ 0)
 past c = first-none _ c.first_bad_entry.ensures (sym c.is_some.ensures ∙ c.if-is_some.false)
 
-there : (c : Else-is_some) → 8 + 8 * get_or c.args.pack.now 2 0 ≤ length c.args.pack.now
-there c = entries_there c.args.pack.now (past c).0
-
 formed : (c : Else-pack-gt16) → EntriesGood c.args.pack.now
 formed c =
     let p = past (goal.at.Else-pack-gt16 c).Else-is_some in
     record { there = p.0; nodes = c.if-pack-gt16.false; good = p.1 }
-
-pub bounds-pack-0 : goal.bounds-pack-0
-bounds-pack-0 c = omega (arith, there (goal.at.bounds-pack-0 c).Else-is_some)
-
-pub bounds-pack-2 : goal.bounds-pack-2
-bounds-pack-2 c = omega (arith, there (goal.at.bounds-pack-2 c).Else-is_some)
 
 good : (c : In-loop-e) → GoodEntry c.args.pack.now c.loop-e.e
 good c = good_at c.args.pack.now (formed (goal.at.In-loop-e c).Else-pack-gt16) c.loop-e.e (omega arith)
@@ -45,12 +35,6 @@ bit_is : (c : In-loop-e) → 1 * 2 ^ (node_in c.args.pack.now c.loop-e.e - 1) % 
 bit_is c =
     let low : node_in c.args.pack.now c.loop-e.e - 1 ≤ 15 = omega (arith, node-few c) in
     omega (arith, pow-le-pow_right {n = 2} (omega arith) low)
-
-pub loop-e-init : goal.loop-e-init
-loop-e-init c = held_start _
-
-pub bounds-pack-e : goal.bounds-pack-e
-bounds-pack-e c = omega (arith, there (goal.at.bounds-pack-e c).Else-is_some)
 
 pub overflow_sub-held : goal.overflow_sub-held
 overflow_sub-held c = omega (arith, node_in_lem c.args.pack.now c.loop-e.e, (good (goal.at.overflow_sub-held c).In-loop-e).least)
