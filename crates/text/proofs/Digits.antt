@@ -1,7 +1,7 @@
 -- A number in decimal. In order: below 1,000 it is what the library writes; a number of one digit with the space before it; how long these are.
-use mathlib.Core.Path.{◌≡◌, refl, sym, ap, ap₂, ◌∙◌}
+use mathlib.Core.Path.{◌≡◌, refl, sym, ap, ◌∙◌}
 use mathlib.Core.Bool.{Bool, true, false, cond}
-use mathlib.Core.List.{List, [], ◌∷◌, ◌++◌, append_assoc}
+use mathlib.Core.List.{List, [], ◌∷◌, ◌++◌}
 use mathlib.Core.Logic.{inl, inr}
 use Prim.Native.Nat.{ℕ, ◌+◌, ◌/◌, ◌%◌, ◌≤◌, ◌<◌}
 use native.Mathlib.Omega.{arith}
@@ -33,15 +33,6 @@ spaced_written x small = elim (cases_lt x 10) [
     | inr b ↦ rw (le-ltb x 100 b) (ap (λ (ds : List ℕ). 32 ∷ ds) (sym (three x b small)))
   ])
 ]
-
--- a space and what the library writes, put after other words
-pub number-put : (before mid later text : List ℕ) (x : ℕ) → x < 1000 → mid ≡ before ++ (32 ∷ []) → text ≡ written x → later ≡ mid ++ text
-    → later ≡ before ++ spaced x
-number-put before mid later text x small space is put =
-    put
-    ∙ ap₂ (λ (l k : List ℕ). l ++ k) space is
-    ∙ append_assoc before (32 ∷ []) (written x)
-    ∙ ap (λ (l : List ℕ). before ++ l) (sym (spaced_written x small))
 
 pub spaced-one : (x : ℕ) → x < 10 → spaced x ≡ 32 ∷ (48 + x % 10) ∷ []
 unfolding spaced decimal

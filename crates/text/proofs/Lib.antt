@@ -1,8 +1,8 @@
 -- Why printing keeps its promise.
---   Turns    == the loops: the words of a list put in turn
+--   Turns    == the loops: the words of a list put in turn, the nodes of a set
 --   Digits   == a number in decimal
 --   Columns  == a node's bytes, as a part of the stripe
---   Refusals == from what the tests find to the refusal
+--   Refusals == what calls for no refusal
 --   Readers  == the text of what the pack reader answers
 --   Lengths  == how long the text is at most
 --   Settled  == the promise settles answer and text, and rules wrong answers out

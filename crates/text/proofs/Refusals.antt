@@ -1,14 +1,13 @@
--- From what the tests find to the refusal that is printed or given, and back. In order: a shape and a lost set that call for a refusal, and those that
--- don't; `print`.
+-- What calls for no refusal. In order: a shape and a lost set, both ways; what is lent to `print`.
 --   Taken contents == what a shape and a lost set are that call for no refusal
 use mathlib.Core.Path.{◌≡◌}
 use mathlib.Core.Bool.{false, not}
 use mathlib.Core.List.{List, [], ◌∷◌}
-use mathlib.Core.Option.{none, some}
+use mathlib.Core.Option.{none}
 use Prim.Native.Nat.{ℕ, ◌≤◌}
 use lib.Dec.{ltb}
 use lib.ListN.{length}
-use borrow.Author.Tests.{le-ltb, eq-eqb, ne_eqb, ltb-false}
+use borrow.Author.Tests.{le-ltb, eq-eqb, ltb-false}
 use Rattle.rules.specs.Shape.{accepted}
 use Rattle.rules.specs.Lost.{lost_count, bit_above}
 use Rattle.rules.specs.Refusal.{◌given-when◌, shape_refusal}
@@ -47,10 +46,6 @@ module _ (contents : Contents) where
       }
 
 module _ (stripe text : List ℕ) where
-  pub print-text : length stripe ≡ stripe_most → (length text ≡ longest_text → ⊥) → print_refusal stripe text ≡ some 2
-  unfolding print_refusal
-  print-text h k = simp (eq-eqb (length stripe) stripe_most h, ne_eqb (length text) longest_text k)
-
   pub print-taken : length stripe ≡ stripe_most → length text ≡ longest_text → print_refusal stripe text ≡ none
   unfolding print_refusal
   print-taken h k = simp (eq-eqb (length stripe) stripe_most h, eq-eqb (length text) longest_text k)
