@@ -1,7 +1,7 @@
 -- What each function promises, for every input.
 --   is_shorter pack      == the pack is shorter than its header and its entries
 --   ShorterIs pack answer == `shorter`: true exactly so
---   found e           == of an entry's number, counted from 1, that number, and none of 0
+--   found e             == an entry's number, counted from 1; none where it is 0
 --   FirstBadIs pack answer == `first_bad_entry`: the first bad entry, counted from 1, or none; of one that is shorter it is 1
 --   EntriesGood pack == the entries are there, n is at most sixteen, and no entry is bad
 --   HeldIs pack held == the set of the entries' nodes, and of no other

@@ -34,7 +34,7 @@ fn bad_entry(pack: &[u8], e: usize) -> bool
         || pack[at + 3] != 0
 }
 
-// The first such entry, counted from 1; of a pack that is shorter than its entries the answer is 1.
+// The first such entry, counted from 1, or none; of a pack that is shorter than its entries the answer is 1.
 #[tactic(auto, using(crate::proofs::Checking::entries_there, crate::proofs::Checking::header_there), unfolding(crate::specs::Pack::entry_at))]
 pub fn first_bad_entry(pack: &[u8]) -> Option<usize>
     ensures { FirstBadIs pack.now result }

@@ -20,8 +20,8 @@ pub fn wrong_total(pack: &[u8], start: usize, l: usize) -> bool
     !placeable(pack, start, l) || four_bytes(pack, 4) != start + usize::from(pack[2]) * l
 }
 
-// The first entry whose offset isn't where its column begins, counted from 1. The first column begins at `start`, each has l bytes. Where columns can't stand
-// so, the answer is 1.
+// The first entry whose offset isn't where its column begins, counted from 1, or none. The first column begins at `start`, each has l bytes. Where columns
+// can't stand so, the answer is 1.
 #[tactic(auto, using(entries::proofs::Checking::entries_there, entries::proofs::Checking::header_there), unfolding(crate::specs::Promise::wrong_offset_by, entries::specs::Parts::offset_in, entries::specs::Pack::entry_at))]
 pub fn first_wrong_offset(pack: &[u8], start: usize, l: usize) -> Option<usize>
     ensures { FirstWrongIs pack.now start l result }
