@@ -3,7 +3,7 @@
 --   Placings  == the loop that puts the columns of a pack in their places
 --   Passed    == what `read_pack` refuses before it fills; what is accepted is read
 --   Unpacking == the stripe of a pack, and that a whole stripe's pack gives that stripe
---   Owed      == what `fill_found` owes, from what `fill` answers
+--   Owed      == what filling a well-formed pack owes, from what `fill` answers
 --   Settled   == the promise settles answer and bytes, and rules wrong answers out
 pub mod EndToEnd
 pub mod Placings

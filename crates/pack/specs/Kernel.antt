@@ -1,7 +1,7 @@
 -- What the private functions do, each result said whole.
 --   Placed found pack before later == `WellFormed::place`: the columns held are those of the pack; the others keep their bytes
---   FoundMeets found pack before answer later == `WellFormed::fill_in`, `fill_found`: the pack is read; or refused with 4 where more than r are lost, with 5 where the columns held
---                   belong to no whole stripe
+--   FoundMeets found pack before answer later == `WellFormed::fill_in`, `fill_found`: the pack is read; or refused with 4 where more than r are lost, with 5
+--                   where the columns held belong to no whole stripe
 use Rattle.std.specs.Prelude.{◌≡◌, false, List, ℕ, ◌<◌, ◌≤◌, length, drop, Result, Ok, Err}
 use Rattle.std.proofs.Math.Option.{some}
 use Rattle.rules.specs.declared.refusals.Refusal.{Refusal}
