@@ -1,7 +1,7 @@
 // Packs.
 ghost use Rattle.capi.specs.Promise.{ReadCodeMeets};
 
-use pack::{Unpacked, read_pack};
+use pack::read_pack;
 
 // Reads a pack: its shape, the nodes that it doesn't hold, and the filled stripe.
 #[unsafe(no_mangle)]
@@ -14,10 +14,10 @@ pub extern "C" fn przytulisz_read_pack(
     ensures { ReadCodeMeets pack.now stripe.old shape.old lost.old result stripe.new shape.new lost.new }
 {
     match read_pack(pack, stripe) {
-        Unpacked::Refused(q) => q as u32,
-        Unpacked::Accepted(contents) => {
+        Err(refusal) => refusal.into(),
+        Ok(contents) => {
             *shape = (contents.shape.n + 256 * contents.shape.r) as u64;
-            *lost = contents.lost as u32;
+            *lost = contents.lost.into();
             0
         },
     }

@@ -1,7 +1,7 @@
 // One node's column: cut for another, or rebuilt from the fractions of the others.
 ghost use Rattle.yebarg.specs.Promise.{CutMeets};
 ghost use Rattle.rebuild.specs.Promise.{RebuildMeets};
-ghost use Rattle.capi.specs.Word.{shape_of, outcome_of};
+ghost use Rattle.capi.specs.Word.{shape_of, Told};
 
 use crate::shapes::{code_of, shape_of};
 use rebuild::rebuild;
@@ -16,7 +16,7 @@ pub extern "C" fn przytulisz_cut(
     column: &[u8],
     fraction: &mut [u8],
 ) -> u32
-    ensures { CutMeets (shape_of shape) helper failed column.now fraction.old (outcome_of result) fraction.new }
+    ensures { Told (λ answer. CutMeets (shape_of shape) helper failed column.now fraction.old answer fraction.new) result }
 {
     code_of(cut(shape_of(shape), helper, failed, column, fraction))
 }
@@ -29,7 +29,7 @@ pub extern "C" fn przytulisz_rebuild(
     fractions: &[u8],
     column: &mut [u8],
 ) -> u32
-    ensures { RebuildMeets (shape_of shape) failed fractions.now column.old (outcome_of result) column.new }
+    ensures { Told (λ answer. RebuildMeets (shape_of shape) failed fractions.now column.old answer column.new) result }
 {
     code_of(rebuild(shape_of(shape), failed, fractions, column))
 }

@@ -3,8 +3,7 @@ ghost use Rattle.std.specs.Prelude.{◌≡◌};
 ghost use Rattle.capi.specs.Word.{shape_of, code_of};
 ghost use Rattle.capi.specs.Promise.{ShapeIs, SizesMeet};
 
-use rules::{Shape, measure};
-use yebarg::Outcome;
+use rules::{Refusal, Shape, measure};
 
 // The shape that a number says: n is its lowest byte and r the rest, so that bits above the lowest 16 make an r that isn't accepted.
 pub fn shape_of(shape: u64) -> Shape
@@ -14,12 +13,12 @@ pub fn shape_of(shape: u64) -> Shape
 }
 
 // 0, or the number of the refusal.
-pub fn code_of(answer: Outcome) -> u32
+pub fn code_of(answer: Result<(), Refusal>) -> u32
     ensures { result ≡ code_of answer }
 {
     match answer {
-        Outcome::Done => 0,
-        Outcome::Refused(q) => q as u32,
+        Ok(()) => 0,
+        Err(refusal) => refusal.into(),
     }
 }
 
@@ -28,10 +27,7 @@ pub fn code_of(answer: Outcome) -> u32
 pub extern "C" fn przytulisz_shape(n: usize, r: usize) -> u64
     ensures { ShapeIs n r result }
 {
-    if 255 < n {
-        return 0;
-    }
-    if 255 < r {
+    if n > 255 || r > 255 {
         return 0;
     }
     (n + 256 * r) as u64
@@ -49,7 +45,7 @@ pub extern "C" fn przytulisz_sizes(
     ensures { SizesMeet (shape_of shape) k.old m.old s.old l.old result k.new m.new s.new l.new }
 {
     let Ok(z) = measure(shape_of(shape)) else {
-        return 1;
+        return Refusal::BadShape.into();
     };
     *k = z.k;
     *m = z.m;

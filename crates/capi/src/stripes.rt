@@ -1,17 +1,18 @@
 // Stripes: parity, testing, lost columns.
+ghost use Rattle.std.specs.Prelude.{◌<◌};
 ghost use Rattle.fill.specs.Promise.{FillMeets, ParityMeets};
-ghost use Rattle.capi.specs.Word.{shape_of, outcome_of};
+ghost use Rattle.capi.specs.Word.{shape_of, Told};
 ghost use Rattle.capi.specs.Promise.{TestCodeMeets};
 
 use crate::shapes::{code_of, shape_of};
 use fill::{fill, fill_parity};
-use rules::measure;
-use sums::{Tested, test};
+use rules::{Refusal, Shape, check_len, measure};
+use sums::test;
 
 // Writes the parity columns.
 #[unsafe(no_mangle)]
 pub extern "C" fn przytulisz_fill_parity(shape: u64, stripe: &mut [u8]) -> u32
-    ensures { ParityMeets (shape_of shape) stripe.old (outcome_of result) stripe.new }
+    ensures { Told (λ answer. ParityMeets (shape_of shape) stripe.old answer stripe.new) result }
 {
     code_of(fill_parity(shape_of(shape), stripe))
 }
@@ -28,12 +29,12 @@ pub extern "C" fn przytulisz_test(
     ensures { TestCodeMeets (shape_of shape) stripe.now whole.old row.old t.old result whole.new row.new t.new }
 {
     match test(shape_of(shape), stripe) {
-        Tested::Refused(q) => q as u32,
-        Tested::Whole => {
+        Err(refusal) => refusal.into(),
+        Ok(None) => {
             *whole = 1;
             0
         },
-        Tested::Fails(f) => {
+        Ok(Some(f)) => {
             *whole = 0;
             *row = f.row;
             *t = f.t;
@@ -42,19 +43,26 @@ pub extern "C" fn przytulisz_test(
     }
 }
 
+// What `fill` answers of a lost set with a bit above the lowest 16, which is above every n.
+#[tactic(auto, unfolding(fill::specs::Refusal::fill_refusal, rules::specs::Refusal::shape_refusal))]
+fn fill_wide(shape: Shape, lost: u32, stripe: &[u8]) -> Result<(), Refusal>
+    requires { 65535 < lost }
+    ensures { FillMeets shape lost stripe.now result stripe.now }
+{
+    let Ok(z) = measure(shape) else {
+        return Err(Refusal::BadShape);
+    };
+    check_len(stripe, z.stripe_len())?;
+    Err(Refusal::BadNode)
+}
+
 // Writes the lost columns. A bit above the lowest 16 is above every n, and is refused as one.
 #[unsafe(no_mangle)]
 pub extern "C" fn przytulisz_fill(shape: u64, lost: u32, stripe: &mut [u8]) -> u32
-    ensures { FillMeets (shape_of shape) lost stripe.old (outcome_of result) stripe.new }
+    ensures { Told (λ answer. FillMeets (shape_of shape) lost stripe.old answer stripe.new) result }
 {
     if 65535 < lost {
-        let Ok(z) = measure(shape_of(shape)) else {
-            return 1;
-        };
-        if stripe.len() != z.shape.n * z.l {
-            return 2;
-        }
-        return 3;
+        return code_of(fill_wide(shape_of(shape), lost, stripe));
     }
     code_of(fill(shape_of(shape), lost as u16, stripe))
 }
