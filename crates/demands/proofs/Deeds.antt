@@ -5,7 +5,7 @@ use mathlib.Core.Path.{◌≡◌, refl, sym, ap, ap₂, ◌∙◌, subst}
 use mathlib.Core.Bool.{Bool, true, false, not, cond}
 use mathlib.Core.List.{List, [], ◌∷◌, ◌++◌}
 use mathlib.Core.Logic.{◌↔◌}
-use mathlib.Core.Option.{Option, none, some, none-ne-some, some-ne-none}
+use mathlib.Core.Option.{Option, none, some, none-ne-some, some-ne-none, some-injective}
 use Prim.Native.Nat.{ℕ, zero, suc, ◌-◌, ◌*◌, ◌/◌, ◌%◌, ◌^◌, ◌<◌, ◌≤◌}
 use native.Mathlib.Nat.{zero-div, one-le-pow}
 use native.Mathlib.Omega.{arith}
@@ -13,13 +13,15 @@ use lib.Dec.{eqb, ltb}
 use lib.ListN.{length, get_or, take, drop, replicate, length-append, length-drop, length-replicate}
 use lib.Seq.{ext_get_or, length-take-le, get_or-take, drop-append-le, take-append-le}
 use borrow.Author.Tests.{ltb-false, le-ltb}
+use Rattle.std.specs.Prelude.{Result, Ok, Err}
 use Rattle.rules.specs.declared.shapes.Shape.{Shape}
+use Rattle.rules.specs.declared.refusals.Refusal.{Refusal}
 use Rattle.rules.specs.Shape.{data_nodes, rows, accepted}
 use Rattle.rules.specs.Stripe.{IsBytes, stripe_length, data_length, column_start, column, read_back, plus_bytes, times_bytes}
 use Rattle.rules.specs.Fraction.{fraction_length, fraction, end_to_end, cut_all}
 use Rattle.rules.specs.Equation.{Whole}
 use Rattle.rules.specs.Lost.{is_lost, lost_count, bit_above, is_parity, Filled}
-use Rattle.rules.specs.Refusal.{first_of, ◌given-when◌, shape_refusal}
+use Rattle.rules.specs.Refusal.{first_of, ◌given-when◌, shape_refusal, refusal_of, number_of}
 use Rattle.rules.proofs.Accepted.{Bounds, bounds}
 use Rattle.rules.proofs.Checks.{none_left}
 use Rattle.rules.proofs.LostSets.{below-lost, lost_among, lost_among_lem, among_same, parity_among}
@@ -29,9 +31,6 @@ use Rattle.rules.proofs.Rebuildings.{end_to_end-same, cut-rebuilt, cut-all-lengt
 use Rattle.rules.proofs.Ties.{lost_tie}
 use Rattle.theory.proofs.Counts.{count-zero}
 use Rattle.rules.proofs.Stripes.{symbol-below, plus-bytes, times-bytes, same_symbols, byte-node, byte-row, byte-symbol, column-same}
-use Rattle.yebarg.specs.declared.answers.Outcome.{Outcome}
-use Rattle.yebarg.specs.declared.answers.Outcome.TheVariants.{Done, Refused}
-use Rattle.yebarg.specs.Answer.{refusal}
 use Rattle.yebarg.specs.Refusal.{read_back_refusal}
 use Rattle.yebarg.specs.Promise.{LayMeets, CutMeets}
 use Rattle.yebarg.proofs.Refusals.{a-node, cut-accepted, lay-taken, read-back-accepted, accepted_writes}
@@ -44,32 +43,29 @@ use Rattle.rebuild.proofs.Taken.{taken→rebuild, rebuild-answers}
 use Rattle.fill.specs.Refusal.{fill_refusal, parity_refusal}
 use Rattle.fill.specs.Promise.{FillMeets, ParityMeets}
 use Rattle.fill.proofs.Taken.{fill-taken, taken→fill, fill-answers, parity-taken}
-use Rattle.pack.specs.declared.answers.Unpacked.{Unpacked}
+use Rattle.pack.specs.declared.answers.Contents.{Contents}
 use Rattle.pack.specs.Refusal.{stripe_most}
-use Rattle.text.specs.declared.answers.Printed.{Printed}
-use Rattle.text.specs.declared.answers.Printed.TheVariants.{Length}
-use Rattle.text.specs.declared.answers.Printed.TheVariants as texts
 use Rattle.text.specs.Text.{printed}
 use Rattle.text.specs.Refusal.{print_refusal}
 use Rattle.text.specs.Promise.{PrintMeets}
 
-pub done : (answer : Outcome) → refusal answer ≡ none → answer ≡ Done
-done answer e = refusal-only answer Done e
+pub done : (answer : Result (Unit {0}) Refusal) → refusal_of answer ≡ none → answer ≡ Ok tt
+done answer e = refusal-only answer (Ok tt) e
 
-pub not_refused : (answer : Outcome) → answer ≡ Done → refusal answer ≡ none
-not_refused answer e = ap refusal e
+pub not_refused : (answer : Result (Unit {0}) Refusal) → answer ≡ Ok tt → refusal_of answer ≡ none
+not_refused answer e = ap refusal_of e
 
-module _ (sh : Shape) (lost : ℕ) (stripe : List ℕ) (answer : Outcome) (later : List ℕ) (p : FillMeets sh lost stripe answer later) where
+module _ (sh : Shape) (lost : ℕ) (stripe : List ℕ) (answer : Result (Unit {0}) Refusal) (later : List ℕ) (p : FillMeets sh lost stripe answer later) where
   -- what is accepted has passed the checks
-  pub accepted-taken : answer ≡ Done → fill_refusal sh lost stripe ≡ none
+  pub accepted-taken : answer ≡ Ok tt → fill_refusal sh lost stripe ≡ none
   accepted-taken e =
       none_left (fill_refusal sh lost stripe) (λ q t. none-ne-some q (sym (not_refused answer e) ∙ p.refused q t))
 
-  pub accepted-filled : answer ≡ Done → Filled sh (is_lost lost) stripe later
+  pub accepted-filled : answer ≡ Ok tt → Filled sh (is_lost lost) stripe later
   accepted-filled e = p.filled (accepted-taken e) (not_refused answer e)
 
   -- where something fills it, it is accepted and that is written
-  pub filled-accepted : fill_refusal sh lost stripe ≡ none → (other : List ℕ) → Filled sh (is_lost lost) stripe other → (answer ≡ Done) × (later ≡ other)
+  pub filled-accepted : fill_refusal sh lost stripe ≡ none → (other : List ℕ) → Filled sh (is_lost lost) stripe other → (answer ≡ Ok tt) × (later ≡ other)
   filled-accepted taken other f = let (e, w) = fill-answers sh lost stripe answer later taken p other f in (done answer e, w)
 
 -- the checks see the length alone
@@ -171,31 +167,31 @@ parity-number-refused sh lost stripe q e = go (not (accepted sh)) (not (eqb (len
 -- two stripes that differ in lost columns alone
 module _ (sh : Shape) (lost : ℕ) (x y : List ℕ) (long : length x ≡ length y)
     (same : OnNodes sh (λ i. is_lost lost i ≡ false → column sh x i ≡ column sh y i)) where
-  pub carried : (b : Outcome) (x' y' : List ℕ) → FillMeets sh lost x Done x' → FillMeets sh lost y b y' → (b ≡ Done) × (y' ≡ x')
+  pub carried : (b : Result (Unit {0}) Refusal) (x' y' : List ℕ) → FillMeets sh lost x (Ok tt) x' → FillMeets sh lost y b y' → (b ≡ Ok tt) × (y' ≡ x')
   carried b x' y' p q =
-      filled-accepted sh lost y b y' q (sym (refusal-length sh lost x y long) ∙ accepted-taken sh lost x Done x' p refl) x'
-      (filled-same-survivors sh (is_lost lost) x y x' same (accepted-filled sh lost x Done x' p refl))
+      filled-accepted sh lost y b y' q (sym (refusal-length sh lost x y long) ∙ accepted-taken sh lost x (Ok tt) x' p refl) x'
+      (filled-same-survivors sh (is_lost lost) x y x' same (accepted-filled sh lost x (Ok tt) x' p refl))
 
   -- refused, both with the same number
-  both-refused : (i j : ℕ) (x' y' : List ℕ) → FillMeets sh lost x (Refused i) x' → FillMeets sh lost y (Refused j) y' → i ≡ j
+  both-refused : (i j : Refusal) (x' y' : List ℕ) → FillMeets sh lost x (Err i) x' → FillMeets sh lost y (Err j) y' → number_of i ≡ number_of j
   both-refused i j x' y' p q = go (fill_refusal sh lost x) refl
     where
-      go : (z : Option ℕ) → fill_refusal sh lost x ≡ z → i ≡ j
-      go none t = (p.unfillable t i refl).0 ∙ sym (q.unfillable (sym (refusal-length sh lost x y long) ∙ t) j refl).0
-      go (some k) t = let e = p.refused k t in let f = q.refused k (sym (refusal-length sh lost x y long) ∙ t) in cc
+      go : (z : Option ℕ) → fill_refusal sh lost x ≡ z → number_of i ≡ number_of j
+      go none t = (p.unfillable t (number_of i) refl).0 ∙ sym (q.unfillable (sym (refusal-length sh lost x y long) ∙ t) (number_of j) refl).0
+      go (some k) t = some-injective (number_of i) (number_of j) (p.refused k t ∙ sym (q.refused k (sym (refusal-length sh lost x y long) ∙ t)))
 
 module _ (sh : Shape) (lost : ℕ) (x y : List ℕ) (long : length x ≡ length y)
     (same : OnNodes sh (λ i. is_lost lost i ≡ false → column sh x i ≡ column sh y i)) where
-  pub unread : (a b : Outcome) (x' y' : List ℕ) → FillMeets sh lost x a x' → FillMeets sh lost y b y' → (a ≡ b) × (a ≡ Done → x' ≡ y')
-  unread Done b x' y' p q = let (e, f) = carried sh lost x y long same b x' y' p q in (sym e, λ d. sym f)
-  unread (Refused i) Done x' y' p q =
-      let (e, f) = carried sh lost y x (sym long) (λ i h k out. sym (same i h k out)) (Refused i) y' x' q p in (e, λ d. f)
-  unread (Refused i) (Refused j) x' y' p q =
-      (ap Refused (both-refused sh lost x y long same i j x' y' p q), λ d. absurd (some-ne-none i (ap refusal d)))
+  pub unread : (a b : Result (Unit {0}) Refusal) (x' y' : List ℕ) → FillMeets sh lost x a x' → FillMeets sh lost y b y' → (a ≡ b) × (a ≡ Ok tt → x' ≡ y')
+  unread (Ok _) b x' y' p q = let (e, f) = carried sh lost x y long same b x' y' p q in (sym e, λ d. sym f)
+  unread (Err i) (Ok _) x' y' p q =
+      let (e, f) = carried sh lost y x (sym long) (λ i h k out. sym (same i h k out)) (Err i) y' x' q p in (e, λ d. f)
+  unread (Err i) (Err j) x' y' p q =
+      (refusal-only (Err i) (Err j) (ap some (both-refused sh lost x y long same i j x' y' p q)), λ d. absurd (some-ne-none (number_of i) (ap refusal_of d)))
 
 -- `fill_parity` beside a fill of a lost number whose nodes are the parity columns
 pub parity_as_fill : (sh : Shape) (lost : ℕ) (stripe : List ℕ) → bit_above sh lost ≡ false → OnNodes sh (λ i. is_lost lost i ≡ is_parity sh i)
-    → (a b : Outcome) (x y : List ℕ) → ParityMeets sh stripe a x → FillMeets sh lost stripe b y → (a ≡ b) × (x ≡ y)
+    → (a b : Result (Unit {0}) Refusal) (x y : List ℕ) → ParityMeets sh stripe a x → FillMeets sh lost stripe b y → (a ≡ b) × (x ≡ y)
 parity_as_fill sh lost stripe above same a b x y p q = go (parity_refusal sh stripe) refl
   where
     go : (z : Option ℕ) → parity_refusal sh stripe ≡ z → (a ≡ b) × (x ≡ y)
@@ -214,7 +210,7 @@ unfolding data_nodes
 filled_data sh stripe later f i h k = f.survivors i h (omega (arith, k)) (data_kept sh i k)
 
 -- what `fill_parity` did
-module _ (sh : Shape) (stripe later : List ℕ) (p : ParityMeets sh stripe Done later) where
+module _ (sh : Shape) (stripe later : List ℕ) (p : ParityMeets sh stripe (Ok tt) later) where
   pub parity_checks : parity_refusal sh stripe ≡ none
   parity_checks = sym p.answered
 
@@ -231,10 +227,10 @@ module _ (sh : Shape) (stripe later : List ℕ) (p : ParityMeets sh stripe Done 
   parity-record = same-record sh later stripe parity-filled.bytes.exact parity-exact (filled_data sh stripe later parity-filled)
 
 -- a record that was laid is what is read back from the data columns
-pub laid-record : (sh : Shape) (rec stripe later : List ℕ) → LayMeets sh rec stripe Done later → length later ≡ stripe_length sh
+pub laid-record : (sh : Shape) (rec stripe later : List ℕ) → LayMeets sh rec stripe (Ok tt) later → length later ≡ stripe_length sh
     → read_back sh later ≡ rec ++ replicate (data_length sh - length rec) 0
 laid-record sh rec stripe later p exact =
-    (read-back-after-lay sh rec stripe zeros (sym p.answered) (length-replicate (data_length sh) 0) Done Done later (read_back sh later) p
+    (read-back-after-lay sh rec stripe zeros (sym p.answered) (length-replicate (data_length sh) 0) (Ok tt) (Ok tt) later (read_back sh later) p
     (record { answered = sym taken; buffer_later = accepted_writes zeros taken refl })).1
   where
     zeros : List ℕ
@@ -245,7 +241,7 @@ laid-record sh rec stripe later p exact =
 
 -- data columns alone decide what parity fills in
 parity-unread : (sh : Shape) (x y x' y' : List ℕ) → ((i : ℕ) → 1 ≤ i → i ≤ data_nodes sh → column sh x i ≡ column sh y i)
-    → ParityMeets sh x Done x' → ParityMeets sh y Done y' → x' ≡ y'
+    → ParityMeets sh x (Ok tt) x' → ParityMeets sh y (Ok tt) y' → x' ≡ y'
 parity-unread sh x y x' y' same p q =
     let b = bounds sh (parity-shape sh x x' p) in
     filled-only sh b (is_parity sh) (omega (arith, parity_among sh b)) y x' y'
@@ -257,22 +253,22 @@ unfolding parity_refusal
 same-refusal sh x y e = rw e refl
 
 -- with the same data columns, whatever the parity columns held
-pub parity-unread-all : (sh : Shape) (x y x' y' : List ℕ) (a b : Outcome) → length x ≡ length y → ((i : ℕ) → 1 ≤ i → i ≤ data_nodes sh → column sh x i ≡ column sh y i)
-    → ParityMeets sh x a x' → ParityMeets sh y b y' → (a ≡ b) × (a ≡ Done → x' ≡ y')
+pub parity-unread-all : (sh : Shape) (x y x' y' : List ℕ) (a b : Result (Unit {0}) Refusal) → length x ≡ length y → ((i : ℕ) → 1 ≤ i → i ≤ data_nodes sh → column sh x i ≡ column sh y i)
+    → ParityMeets sh x a x' → ParityMeets sh y b y' → (a ≡ b) × (a ≡ Ok tt → x' ≡ y')
 parity-unread-all sh x y x' y' a b long same p q =
     let e : a ≡ b = refusal-only a b (p.answered ∙ same-refusal sh x y long ∙ sym q.answered) in
     (e, λ d. parity-unread sh x y x' y' same (subst (λ z. ParityMeets sh x z x') d p) (subst (λ z. ParityMeets sh y z y') (sym e ∙ d) q))
 
 pub fill-record : (sh : Shape) (lost : ℕ) (stripe later : List ℕ) → ((i : ℕ) → 1 ≤ i → i ≤ data_nodes sh → is_lost lost i ≡ false)
-    → FillMeets sh lost stripe Done later → read_back sh later ≡ read_back sh stripe
+    → FillMeets sh lost stripe (Ok tt) later → read_back sh later ≡ read_back sh stripe
 unfolding data_nodes
 fill-record sh lost stripe later kept p =
-    let f = accepted-filled sh lost stripe Done later p refl in
-    same-record sh later stripe f.bytes.exact (fill-taken sh lost stripe (accepted-taken sh lost stripe Done later p refl)).exact
+    let f = accepted-filled sh lost stripe (Ok tt) later p refl in
+    same-record sh later stripe f.bytes.exact (fill-taken sh lost stripe (accepted-taken sh lost stripe (Ok tt) later p refl)).exact
     (λ i h k. f.survivors i h (omega (arith, k)) (kept i h k))
 
-pub empty_fill : (sh : Shape) (stripe : List ℕ) (answer : Outcome) (later : List ℕ) → shape_refusal sh ≡ none → IsBytes (stripe_length sh) stripe
-    → FillMeets sh 0 stripe answer later → ((answer ≡ Done) ↔ Whole sh stripe) × (later ≡ stripe)
+pub empty_fill : (sh : Shape) (stripe : List ℕ) (answer : Result (Unit {0}) Refusal) (later : List ℕ) → shape_refusal sh ≡ none → IsBytes (stripe_length sh) stripe
+    → FillMeets sh 0 stripe answer later → ((answer ≡ Ok tt) ↔ Whole sh stripe) × (later ≡ stripe)
 empty_fill sh stripe answer later accepted bytes p = ((whole, accepts), kept answer refl)
   where
     taken : fill_refusal sh 0 stripe ≡ none
@@ -284,37 +280,37 @@ empty_fill sh stripe answer later accepted bytes p = ((whole, accepts), kept ans
         few : lost_count 0 ≤ sh.r
         few = omega (arith, lost_tie 0 0 (omega arith), count-zero (λ i. is_lost 0 (suc i)))
 
-    same : answer ≡ Done → later ≡ stripe
+    same : answer ≡ Ok tt → later ≡ stripe
     same e = all-kept sh (is_lost 0) stripe later nothing-lost bytes.exact (accepted-filled sh 0 stripe answer later p e)
 
-    accepts : Whole sh stripe → answer ≡ Done
+    accepts : Whole sh stripe → answer ≡ Ok tt
     accepts w = (filled-accepted sh 0 stripe answer later p taken stripe (whole-fills sh (is_lost 0) stripe bytes w)).0
 
-    whole : answer ≡ Done → Whole sh stripe
+    whole : answer ≡ Ok tt → Whole sh stripe
     whole e = subst (Whole sh) (same e) (accepted-filled sh 0 stripe answer later p e).whole
 
-    kept : (z : Outcome) → answer ≡ z → later ≡ stripe
-    kept Done e = same e
-    kept (Refused q) e = p.kept q (ap refusal e)
+    kept : (z : Result (Unit {0}) Refusal) → answer ≡ z → later ≡ stripe
+    kept (Ok _) e = same e
+    kept (Err q) e = p.kept (number_of q) (ap refusal_of e)
 
-module _ (sh : Shape) (lost : ℕ) (x y x' y' : List ℕ) (answer : Outcome) (later : List ℕ) (bx : IsBytes (stripe_length sh) x) (by : IsBytes (stripe_length sh) y)
+module _ (sh : Shape) (lost : ℕ) (x y x' y' : List ℕ) (answer : Result (Unit {0}) Refusal) (later : List ℕ) (bx : IsBytes (stripe_length sh) x) (by : IsBytes (stripe_length sh) y)
     (taken : fill_refusal sh lost x ≡ none) (f : Filled sh (is_lost lost) x x') (g : Filled sh (is_lost lost) y y') where
-  pub sum-filled : FillMeets sh lost (plus_bytes x y) answer later → (answer ≡ Done) × (later ≡ plus_bytes x' y')
+  pub sum-filled : FillMeets sh lost (plus_bytes x y) answer later → (answer ≡ Ok tt) × (later ≡ plus_bytes x' y')
   sum-filled p =
       filled-accepted sh lost (plus_bytes x y) answer later p
       (refusal-length sh lost (plus_bytes x y) x ((plus-bytes (stripe_length sh) x y bx by).exact ∙ sym bx.exact) ∙ taken)
       (plus_bytes x' y') (filled-plus sh (taken-bounds sh lost x taken) (is_lost lost) x y x' y' bx by f g)
 
-module _ (sh : Shape) (lost c : ℕ) (x x' : List ℕ) (answer : Outcome) (later : List ℕ) (bx : IsBytes (stripe_length sh) x)
+module _ (sh : Shape) (lost c : ℕ) (x x' : List ℕ) (answer : Result (Unit {0}) Refusal) (later : List ℕ) (bx : IsBytes (stripe_length sh) x)
     (taken : fill_refusal sh lost x ≡ none) (f : Filled sh (is_lost lost) x x') where
-  pub multiple_filled : FillMeets sh lost (times_bytes c x) answer later → (answer ≡ Done) × (later ≡ times_bytes c x')
+  pub multiple_filled : FillMeets sh lost (times_bytes c x) answer later → (answer ≡ Ok tt) × (later ≡ times_bytes c x')
   multiple_filled p =
       filled-accepted sh lost (times_bytes c x) answer later p
       (refusal-length sh lost (times_bytes c x) x ((times-bytes (stripe_length sh) c x bx).exact ∙ sym bx.exact) ∙ taken)
       (times_bytes c x') (filled-times sh (taken-bounds sh lost x taken) (is_lost lost) c x x' bx f)
 
 -- fractions that were cut, laid end to end
-module _ (sh : Shape) (failed : ℕ) (W : List ℕ) (buffers fractions : ℕ → List ℕ) (answers : ℕ → Outcome)
+module _ (sh : Shape) (failed : ℕ) (W : List ℕ) (buffers fractions : ℕ → List ℕ) (answers : ℕ → Result (Unit {0}) Refusal)
     (accepted : shape_refusal sh ≡ none) (first : 1 ≤ failed) (last : failed ≤ sh.n)
     (bytes : IsBytes (stripe_length sh) W) (rooms : (i : ℕ) → length (buffers i) ≡ fraction_length sh)
     (cut : (i : ℕ) → 1 ≤ i → i ≤ sh.n → (i ≡ failed → ⊥) → CutMeets sh i failed (column sh W i) (buffers i) (answers i) (fractions i)) where
@@ -328,9 +324,9 @@ module _ (sh : Shape) (failed : ℕ) (W : List ℕ) (buffers fractions : ℕ →
   unfolding cut_all
   cuts_are = end_to_end-same sh failed first last fractions (λ i. fraction sh failed (column sh W i)) cut-is
 
-pub rebuilt-back : (sh : Shape) (failed : ℕ) (W before : List ℕ) (answer : Outcome) (later : List ℕ)
+pub rebuilt-back : (sh : Shape) (failed : ℕ) (W before : List ℕ) (answer : Result (Unit {0}) Refusal) (later : List ℕ)
     → shape_refusal sh ≡ none → 1 ≤ failed → failed ≤ sh.n → IsBytes (stripe_length sh) W → Whole sh W → length before ≡ rows sh
-    → RebuildMeets sh failed (cut_all sh failed W) before answer later → (answer ≡ Done) × (later ≡ column sh W failed)
+    → RebuildMeets sh failed (cut_all sh failed W) before answer later → (answer ≡ Ok tt) × (later ≡ column sh W failed)
 rebuilt-back sh failed W before answer later accepted first last bytes whole room p = (
   done answer (p.answered ∙ taken),
   rebuild-answers sh failed (cut_all sh failed W) before answer later taken p (column sh W failed)
@@ -364,10 +360,10 @@ module _ (sh : Shape) (stripe before later : List ℕ) (exact : length stripe �
       ∙ take-append-le (rows sh) (drop ((i - 1) * rows sh) stripe) _ (rw length-drop (omega (arith, exact, column-room sh i h k)))
 
 -- what is printed, where its text is known
-pub text-written : (answer : Unpacked) (stripe before : List ℕ) (result : Printed) (later text : List ℕ)
+pub text-written : (answer : Result Contents ℕ) (stripe before : List ℕ) (result : Result ℕ Refusal) (later text : List ℕ)
     → print_refusal stripe before ≡ none → printed answer stripe ≡ text → PrintMeets answer stripe before result later
-    → (result ≡ Length (length text)) × (later ≡ text ++ drop (length text) before)
-text-written answer stripe before (Length k) later text passed is (_, exact, written) =
+    → (result ≡ Ok (length text)) × (later ≡ text ++ drop (length text) before)
+text-written answer stripe before (Ok k) later text passed is (_, exact, written) =
     let size : k ≡ length text = exact ∙ ap length is in
-    (ap Length size, written ∙ ap₂ (λ (t : List ℕ) (j : ℕ). t ++ drop j before) is size)
-text-written answer stripe before (texts.Refused q) later text passed is (refused, _) = absurd (none-ne-some q (sym passed ∙ refused))
+    (ap Ok size, written ∙ ap₂ (λ (t : List ℕ) (j : ℕ). t ++ drop j before) is size)
+text-written answer stripe before (Err q) later text passed is (refused, _) = absurd (none-ne-some (number_of q) (sym passed ∙ refused))
