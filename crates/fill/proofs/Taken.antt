@@ -1,15 +1,15 @@
--- What isn't refused with 1 to 4 has passed every check, and the other way round. In order: `fill`; `fill_parity`; what a fill has then to answer and to write,
--- where something fills the stripe.
+-- What isn't refused with 1 to 4 has passed every check, and the other way round. In order: `fill`, and what it refuses with 4; `fill_parity`; what a fill
+-- has then to answer and to write, where something fills the stripe.
 --   FillTaken sh lost stripe == what the checks of `fill` ask for
 use mathlib.Core.Path.{◌≡◌}
 use mathlib.Core.Bool.{false, not}
 use mathlib.Core.List.{List, [], ◌∷◌}
-use mathlib.Core.Option.{none}
-use Prim.Native.Nat.{ℕ, ◌≤◌}
+use mathlib.Core.Option.{none, some}
+use Prim.Native.Nat.{ℕ, ◌/◌, ◌^◌, ◌<◌, ◌≤◌}
 use native.Mathlib.Omega.{arith}
 use lib.Dec.{eqb, ltb}
 use lib.ListN.{length}
-use borrow.Author.Tests.{ltb-false, le-ltb, eq-eqb}
+use borrow.Author.Tests.{ltb-false, lt-ltb, le-ltb, eq-eqb}
 use Rattle.rules.specs.declared.shapes.Shape.{Shape}
 use Rattle.rules.specs.Shape.{accepted}
 use Rattle.rules.specs.Stripe.{stripe_length}
@@ -53,6 +53,11 @@ module _ (sh : Shape) (lost : ℕ) (stripe : List ℕ) where
   unfolding fill_refusal
   taken→fill t =
       simp (is-accepted sh t.shape, eq-eqb (length stripe) (stripe_length sh) t.exact, t.none_above, le-ltb sh.r (lost_count lost) t.few)
+
+  pub fill-many : shape_refusal sh ≡ none → length stripe ≡ stripe_length sh → lost / 2 ^ sh.n ≡ 0 → sh.r < lost_count lost → fill_refusal sh lost stripe ≡ some 4
+  unfolding fill_refusal bit_above
+  fill-many h k b m =
+      simp (is-accepted sh h, eq-eqb (length stripe) (stripe_length sh) k, eq-eqb (lost / 2 ^ sh.n) 0 b, lt-ltb sh.r (lost_count lost) m)
 
   pub fill-few : fill_refusal sh lost stripe ≡ none → lost_among sh (is_lost lost) ≤ sh.r
   fill-few e = omega (arith, (fill-taken e).few, lost_among_lem sh lost (fill-taken e).none_above)

@@ -87,7 +87,7 @@ pub fn fill(shape: Shape, lost: u16, stripe: &mut [u8]) -> Result<(), Refusal>
 }
 
 // Fills the parity columns, so that the stripe is whole. With r columns lost it always can be.
-#[tactic(auto, unfolding(crate::specs::Refusal::parity_refusal, rules::specs::Refusal::shape_refusal))]
+#[tactic(auto, unfolding(crate::specs::Refusal::parity_refusal, rules::specs::Refusal::shape_refusal, rules::specs::Lost::is_parity))]
 pub fn fill_parity(shape: Shape, stripe: &mut [u8]) -> Result<(), Refusal>
     ensures { ParityMeets shape stripe.old result stripe.new }
 {

@@ -17,8 +17,7 @@ use Rattle.rules.specs.Lost.{lost_count, bit_above}
 use Rattle.rules.proofs.LostSets.{lost-below}
 use Rattle.fill.specs.Refusal.{fill_refusal}
 use Rattle.fill.specs.Promise.{FillMeets}
-use Rattle.fill.proofs.Taken.{taken→fill}
-use Rattle.fill.proofs.Refusals.{fill-many}
+use Rattle.fill.proofs.Taken.{taken→fill, fill-many}
 use Rattle.layout.specs.declared.answers.Found.{Found}
 use Rattle.entries.specs.Pack.{others}
 use Rattle.layout.specs.Promise.{LayoutIs}
