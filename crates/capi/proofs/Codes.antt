@@ -1,5 +1,5 @@
--- An answer and the number that is returned for it. In order: no refusal has the number 0; a number is that of the refusal that it says; what a promise of
--- the number gives.
+-- An answer and the number that is returned for it. In order: no refusal has the number 0; a number is that of the refusal that it says; an answer is the one
+-- that its number says; what a promise of the number gives.
 use mathlib.Core.Path.{◌≡◌, refl, sym, ap, subst, ◌∙◌}
 use mathlib.Core.Bool.{Bool, cond}
 use mathlib.Core.List.{List}
@@ -12,7 +12,8 @@ use Rattle.std.specs.Prelude.{Result, Ok, Err}
 use Rattle.rules.specs.declared.shapes.Shape.{Shape}
 use Rattle.rules.specs.declared.refusals.Refusal.{Refusal}
 use Rattle.rules.specs.declared.refusals.Refusal.TheVariants.{BadShape, BadLength, BadNode, TooManyLost, NoWholeStripe, BadHeader, BadEntry, BadLayout, DivisionByZero}
-use Rattle.rules.specs.Refusal.{number_of}
+use Rattle.rules.specs.Refusal.{number_of, refusal_of}
+use Rattle.rules.proofs.Numbers.{answers_settled}
 use Rattle.capi.specs.Word.{code_of, refused_of, Told}
 
 pub not_zero : (q : Refusal) → number_of q ≡ 0 → ⊥
@@ -30,17 +31,27 @@ abbrev code_in : Option ℕ → ℕ
 code_in none = 0
 code_in (some q) = q
 
-pub code-said : (code : ℕ) → code_in (refused_of code) ≡ code
+pub code-outcome : (code : ℕ) → code_in (refused_of code) ≡ code
 unfolding refused_of
-code-said zero = refl
-code-said (suc q) = ap (λ (b : Bool). code_in (cond b none (some (suc q)))) (eqb-suc-zero q)
+code-outcome zero = refl
+code-outcome (suc q) = ap (λ (b : Bool). code_in (cond b none (some (suc q)))) (eqb-suc-zero q)
 
 pub code-only : (a b : ℕ) → refused_of a ≡ refused_of b → a ≡ b
-code-only a b e = sym (code-said a) ∙ ap code_in e ∙ code-said b
+code-only a b e = sym (code-outcome a) ∙ ap code_in e ∙ code-outcome b
 
 pub refused-code : (code : ℕ) → (code ≡ 0 → ⊥) → refused_of code ≡ some code
 unfolding refused_of
 refused-code code ne = ap (λ (b : Bool). cond b none (some code)) (ne_eqb code 0 ne)
+
+-- the number returned for an answer says whether it is refused, and with which number
+pub outcome-code : (o : Result (Unit {0}) Refusal) → refused_of (code_of o) ≡ refusal_of o
+unfolding refused_of
+outcome-code (Ok x) = refl
+outcome-code (Err q) = refused-code (number_of q) (not_zero q)
+
+-- and no other answer has it
+pub outcome-only : (a b : Result (Unit {0}) Refusal) → code_of a ≡ code_of b → a ≡ b
+outcome-only a b e = answers_settled a b (sym (outcome-code a) ∙ ap refused_of e ∙ outcome-code b)
 
 -- what an entry promises of its shape and its answer, as a promise of the numbers for both
 pub told : (P : Shape → Result (Unit {0}) Refusal → Type 0) {sh said : Shape} {code : ℕ} (o : Result (Unit {0}) Refusal)
