@@ -1,18 +1,18 @@
--- An answer and the number that is returned for it. In order: no refusal has the number 0; a number is that of the refusal that it says; an answer is the one
+-- An answer and the number that is returned for it. In order: no refusal has the number 0, nor does a list of checks give it; a number is that of the refusal that it says; an answer is the one
 -- that its number says; what a promise of the number gives.
 use mathlib.Core.Path.{◌≡◌, refl, sym, ap, subst, ◌∙◌}
-use mathlib.Core.Bool.{Bool, cond}
-use mathlib.Core.List.{List}
-use mathlib.Core.Option.{Option, none, some}
+use mathlib.Core.Bool.{Bool, true, false, cond, ◌&&◌}
+use mathlib.Core.List.{List, [], ◌∷◌}
+use mathlib.Core.Option.{Option, none, some, none-ne-some, some-injective}
 use Prim.Native.Nat.{ℕ, zero, suc}
 use native.Mathlib.Omega.{arith}
-use lib.Dec.{eqb-suc-zero}
+use lib.Dec.{T, ltb, ltb→lt, eqb-suc-zero}
 use borrow.Author.Tests.{ne_eqb}
 use Rattle.std.specs.Prelude.{Result, Ok, Err}
 use Rattle.rules.specs.declared.shapes.Shape.{Shape}
 use Rattle.rules.specs.declared.refusals.Refusal.{Refusal}
 use Rattle.rules.specs.declared.refusals.Refusal.TheVariants.{BadShape, BadLength, BadNode, TooManyLost, NoWholeStripe, BadHeader, BadEntry, BadLayout, DivisionByZero}
-use Rattle.rules.specs.Refusal.{number_of, refusal_of}
+use Rattle.rules.specs.Refusal.{Check, first_of, number_of, refusal_of}
 use Rattle.rules.proofs.Numbers.{answers_settled}
 use Rattle.capi.specs.Word.{code_of, refused_of, Told}
 
@@ -26,6 +26,28 @@ not_zero BadHeader e = omega (arith, e)
 not_zero BadEntry e = omega (arith, e)
 not_zero BadLayout e = omega (arith, e)
 not_zero DivisionByZero e = omega (arith, e)
+
+abbrev pub NotZero : Option ℕ → Type 0
+NotZero refused = refused ≡ some 0 → ⊥
+
+-- each check of a list has a number
+abbrev pub numbered : List Check → Bool
+numbered [] = true
+numbered (check ∷ rest) = ltb 0 check.number && numbered rest
+
+both : (a b : Bool) → T (a && b) → T a × T b
+both true b h = (tt, h)
+both false b h = absurd h
+
+either : (b : Bool) (q : ℕ) (rest : Option ℕ) → (q ≡ 0 → ⊥) → NotZero rest → NotZero (cond b (some q) rest)
+either true q rest h k e = h (some-injective q 0 e)
+either false q rest h k e = k e
+
+pub first_not_zero : (checks : List Check) → T (numbered checks) → NotZero (first_of checks)
+first_not_zero [] h = none-ne-some 0
+first_not_zero (check ∷ rest) h =
+    let (first-numbered, others) = both (ltb 0 check.number) (numbered rest) h in
+    either check.applies check.number (first_of rest) (λ e. omega (arith, e, ltb→lt 0 check.number first-numbered)) (first_not_zero rest others)
 
 abbrev code_in : Option ℕ → ℕ
 code_in none = 0

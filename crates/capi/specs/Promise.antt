@@ -1,5 +1,5 @@
--- What is promised of a shape's number, and where numbers are written through pointers, for every input. `code` is the number returned; a name with `later` is what the pointer leads to
--- when the function returns.
+-- What is promised of a shape's number, and where numbers are written through pointers, for every input. `code` is the number returned; a name with `later`
+-- is what the pointer leads to when the function returns.
 --   ShapeIs n r shape == `przytulisz_shape`: the number of the shape
 --   SizesMeet     == `przytulisz_sizes`: k, m, s and l of an accepted shape; else refusal 1, and nothing is written
 --   TestTold      == the answer of a test as the numbers say it: 0 with 1 in `whole` and row and t kept, 0 with 0 there and where it fails first, or a

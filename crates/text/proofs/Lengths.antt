@@ -1,7 +1,7 @@
 -- How long the text is at most: every text of an answer fits into the bytes lent for it, and one of them fills them. In order: the lines;
--- the text; line by line, of sizes and a lost set that they can fill; every text.
+-- the text; line by line, of sizes and a lost set that they can fill; every text; the length that is answered.
 --   rooms == there is room for each line
-use mathlib.Core.Path.{◌≡◌, refl, ap, ◌∙◌}
+use mathlib.Core.Path.{◌≡◌, refl, sym, ap, ap₂, subst, ◌∙◌}
 use mathlib.Core.List.{List, [], ◌∷◌, ◌++◌, flat_map}
 use mathlib.Core.Option.{Option, none, some}
 use Prim.Native.Nat.{ℕ, ◌+◌, ◌≤◌}
@@ -9,9 +9,11 @@ use native.Mathlib.Nat.{min-le_left}
 use native.Mathlib.Omega.{arith}
 use lib.Count.{ones, ones_in}
 use Rattle.std.specs.Prelude.{Result, Ok, Err}
-use lib.ListN.{length, drop, replicate, length-append, length-take}
+use lib.ListN.{length, take, drop, replicate, length-append, length-take}
+use lib.Seq.{take-append_seam}
 use mathlib.Core.Bool.{false}
 use Rattle.std.proofs.lemmas.Grind.{common_steps}
+use Rattle.rules.specs.declared.refusals.Refusal.{Refusal}
 use Rattle.rules.specs.declared.shapes.Shape.{Shape}
 use Rattle.rules.specs.declared.shapes.Sizes.{Sizes}
 use Rattle.rules.specs.Shape.{group_size, groups, rows, accepted}
@@ -26,6 +28,7 @@ use Rattle.entries.proofs.Sets.{listed_held, held_count}
 use Rattle.pack.specs.declared.answers.Contents.{Contents}
 use Rattle.text.specs.Text.{letters, decimal, spaced, spaced_all, spaced_or_none, line, refused_line, shape_line, lost_line, column_line}
 use Rattle.text.specs.Text.{read_text, contents_refusal, contents_text, printed, longest_text}
+use Rattle.text.specs.Promise.{PrintMeets}
 use Rattle.text.proofs.Turns.{all-spaced}
 use Rattle.text.proofs.Digits.{spaced-one, spaced-most, spaced-short}
 use Rattle.text.proofs.Refusals.{Taken, none→taken}
@@ -141,3 +144,20 @@ pub longest_text-is : length (printed (Ok record { shape = shape 16 4; lost = 61
 unfolding printed contents_refusal accepted rows groups group_size bit_above lost_count ones ones_in read_text shape_line lost_line column_line line spaced_or_none
     spaced_all spaced decimal nodes_of rising is_lost column column_start flat_map
 longest_text-is = refl
+
+-- the length that is answered counts bytes at the front of those lent, so that this front can be lent on
+pub print-counts : (answer : Result Contents ℕ) (stripe before later : List ℕ) (result : Result ℕ Refusal) (k : ℕ) → PrintMeets answer stripe before result later
+    → result ≡ Ok k → (k ≤ length later) × (k ≡ length (take k later))
+print-counts answer stripe before later result k meets e = (
+  omega (arith, exact, ap length is, length-append (printed answer stripe) (drop k before)),
+  exact ∙ ap length (sym (take-append_seam (printed answer stripe) (drop k before)) ∙ ap₂ take (sym exact) (sym is)),
+)
+  where
+    m : PrintMeets answer stripe before (Ok k) later
+    m = subst (λ p. PrintMeets answer stripe before p later) e meets
+
+    exact : k ≡ length (printed answer stripe)
+    exact = m.1
+
+    is : later ≡ printed answer stripe ++ drop k before
+    is = m.2
