@@ -9,20 +9,26 @@ ghost use Rattle.corrections.specs.Kernel.{ColumnCorrected};
 use columns::byte_at;
 use field::{double, times};
 use rules::{Misfit, Shape, Sizes, measure, worth};
-use std::cmp::Ordering;
 
 // What is added to the symbol of a lost node at place u, where the row's digit is d: `own` and `other` are what its weight and its mate's fall short by, and
 // `paired` says whether its mate is lost too. γ is 2; 142 is the inverse of γ, 244 that of γ + 1.
 fn correction(u: usize, d: usize, paired: bool, own: u8, other: u8) -> u8
     ensures { result ≡ correction_by (compare u d) paired own other }
 {
-    match (u.cmp(&d), paired) {
-        (Ordering::Less, true) => times(own ^ other, 244),
-        (Ordering::Less, false) => times(own, 142),
-        (Ordering::Equal, _) => own,
-        (Ordering::Greater, true) => times(double(own) ^ other, 244),
-        (Ordering::Greater, false) => own,
+    if u == d {
+        return own;
     }
+    if paired {
+        if d < u {
+            let scaled = double(own);
+            return times(scaled ^ other, 244);
+        }
+        return times(own ^ other, 244);
+    }
+    if d < u {
+        return own;
+    }
+    times(own, 142)
 }
 
 // Which columns are corrected, by the flags of their nodes, and at which rows: those that have the score asked for.

@@ -13,7 +13,7 @@ use rules::{Refusal, Shape, Sizes, check_len, measure};
 use sums::test;
 
 // The columns to be filled of one stripe: at most r, and none above n.
-#[derive(Clone, Copy)]
+#[derive(Clone, Copy, Debug, PartialEq, Eq)]
 struct Chosen {
     z: Sizes,
     flags: [bool; 16],

@@ -1,7 +1,9 @@
--- `correction` meets its contract: what `cmp` answers is how the place compares with the digit, and γ is 2.
-use Rattle.std.proofs.Common.{◌≡◌, ℕ, Bool, true, false, Less, Equal, Greater, refl, sym, ap, ap₂, ◌∙◌, bit_xor}
-use Rattle.std.proofs.lemmas.Cmp.{ranked}
-use Prim.Native.Nat.{compare, Ordering}
+-- `corrections::correction` meets its contract: what the tests found is how the place compares with the digit, and whether the mate is lost. γ is 2.
+use mathlib.Core.Path.{◌≡◌, refl, sym, ap, ap₂, ◌∙◌}
+use mathlib.Core.Bool.{Bool, true, false}
+use Prim.Native.Nat.{ℕ, compare, Ordering}
+use native.Mathlib.Omega.{arith}
+use lib.Bits.{bit_xor}
 use Rattle.theory.specs.Pair.{Compared}
 use Rattle.theory.proofs.Mates.{compare_only}
 use Rattle.field.specs.Number.{add, mul}
@@ -10,43 +12,39 @@ use Rattle.rules.specs.Point.{γ}
 use Rattle.corrections.specs.Correction.{correction_by}
 use Rattle.corrections.proofs.correcting.correction.Goals as goal
 
--- the case that the comparison picks is the correction
-picked : (o : Ordering) (lost : Bool) (u d : ℕ) {paired : Bool} (own other : ℕ) → Compared o u d → paired ≡ lost
+-- the case that the tests pick is the correction
+picked : (o : Ordering) (lost : Bool) (u d : ℕ) (paired : Bool) (own other : ℕ) → Compared o u d → paired ≡ lost
     → correction_by o lost own other ≡ correction_by (compare u d) paired own other
-picked o lost u d own other h e = ap₂ (λ p b. correction_by p b own other) (sym (compare_only u d o h)) (sym e)
+picked o lost u d paired own other h e = ap₂ (λ p b. correction_by p b own other) (sym (compare_only u d o h)) (sym e)
 
-pub returns-in-Less-true : goal.returns-in-Less-true
-unfolding correction_by add
-returns-in-Less-true c =
-    let at = c.in-Less-true in
+pub returns-then-u-d : goal.returns-then-u-d
+unfolding correction_by
+returns-then-u-d c =
+    picked Ordering.eq c.args.paired c.args.u c.args.d c.args.paired c.args.own c.args.other c.if-u-d.true refl
+
+pub returns-then-d-u : goal.returns-then-d-u
+unfolding correction_by add γ
+returns-then-d-u c =
     c.times.ensures.value
     ∙ mul_comm _ 244
-    ∙ picked Ordering.lt true c.args.u c.args.d c.args.own c.args.other (ranked c.args.u c.args.d Less (sym at.is-0 ∙ c.cmp.ensures)) at.is-1
+    ∙ ap (λ x. mul 244 (bit_xor x c.args.other)) (c.double-scaled.ensures.value ∙ mul_comm c.args.own 2)
+    ∙ picked Ordering.gt true c.args.u c.args.d c.args.paired c.args.own c.args.other c.if-d-u.true c.if-paired.true
 
-pub returns-in-Less-false : goal.returns-in-Less-false
-unfolding correction_by
-returns-in-Less-false c =
-    let at = c.in-Less-false in
-    c.times-in-Less-false.ensures.value
-    ∙ mul_comm _ 142
-    ∙ picked Ordering.lt false c.args.u c.args.d c.args.own c.args.other (ranked c.args.u c.args.d Less (sym at.is-0 ∙ c.cmp.ensures)) at.is-1
-
-pub returns-in-Equal-default : goal.returns-in-Equal-default
-unfolding correction_by
-returns-in-Equal-default c =
-    picked Ordering.eq c.args.paired c.args.u c.args.d c.args.own c.args.other (ranked c.args.u c.args.d Equal (sym c.in-Equal-default.is-0 ∙ c.cmp.ensures)) refl
-
-pub returns-in-Greater-true : goal.returns-in-Greater-true
-unfolding correction_by add γ
-returns-in-Greater-true c =
-    let at = c.in-Greater-true in
-    c.times-in-Greater-true.ensures.value
+pub returns-then-paired : goal.returns-then-paired
+unfolding correction_by add
+returns-then-paired c =
+    c.times-then-paired.ensures.value
     ∙ mul_comm _ 244
-    ∙ ap (λ x. mul 244 (bit_xor x c.args.other)) (c.double.ensures.value ∙ mul_comm c.args.own 2)
-    ∙ picked Ordering.gt true c.args.u c.args.d c.args.own c.args.other (ranked c.args.u c.args.d Greater (sym at.is-0 ∙ c.cmp.ensures)) at.is-1
+    ∙ picked Ordering.lt true c.args.u c.args.d c.args.paired c.args.own c.args.other (omega arith) c.if-paired.true
 
-pub returns-in-Greater-false : goal.returns-in-Greater-false
+pub returns-then-d-u-2 : goal.returns-then-d-u-2
 unfolding correction_by
-returns-in-Greater-false c =
-    let at = c.in-Greater-false in
-    picked Ordering.gt false c.args.u c.args.d c.args.own c.args.other (ranked c.args.u c.args.d Greater (sym at.is-0 ∙ c.cmp.ensures)) at.is-1
+returns-then-d-u-2 c =
+    picked Ordering.gt false c.args.u c.args.d c.args.paired c.args.own c.args.other c.if-d-u-2.true c.if-paired.false
+
+pub returns : goal.returns
+unfolding correction_by
+returns c =
+    c.times-2.ensures.value
+    ∙ mul_comm _ 142
+    ∙ picked Ordering.lt false c.args.u c.args.d c.args.paired c.args.own c.args.other (omega arith) c.if-paired.false
