@@ -2,6 +2,7 @@
 ghost use Rattle.choices.specs.Promise.{CountIs, ListIs, PointsAre};
 ghost use Rattle.choices.specs.Kernel.{PointAt};
 
+use columns::lesser;
 use rules::{Shape, point};
 
 // How many of the first n nodes are chosen. There are no more than 16.
@@ -20,7 +21,7 @@ pub fn listed(flags: [bool; 16], n: usize) -> [usize; 4]
         return nodes;
     }
     let mut j = 0;
-    for i in 0..n.min(16) {
+    for i in 0..lesser(n, 16) {
         if flags[i] {
             nodes[j] = i;
             j += 1;

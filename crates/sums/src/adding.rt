@@ -5,6 +5,7 @@ ghost use Rattle.rules.specs.Stripe.{symbol, stripe_length};
 ghost use Rattle.sums.specs.Kernel.{SumsAre};
 ghost use Rattle.sums.specs.Promise.{SumsMeet};
 
+use columns::lesser;
 use rules::{Refusal, Shape, Sizes, check_len, measure, point, worth};
 use weights::add_node;
 
@@ -20,7 +21,7 @@ pub fn add_all(sums: &mut [u8], stripe: &[u8], z: Sizes)
     // Group and place count from 0 here.
     for v in 0..m {
         let start = v * s * l;
-        let stop = (start + s * l).min(stripe.len());
+        let stop = lesser(start + s * l, stripe.len());
         let group = &stripe[start..stop];
         let w = worth(shape, v + 1);
         for u in 0..s {

@@ -22,8 +22,10 @@ fn lowest(sums: &[u8], z: Sizes) -> Option<Failure>
     None
 }
 
-// Where the stripe fails first: the lowest row, and in it the lowest t; none where it is whole.
+// Where the stripe fails first: the lowest row, and in it the lowest t; none where it is whole. (Inlined, so that a caller's stack has no
+// frame for it.)
 #[tactic(auto, unfolding(crate::specs::Refusal::test_refusal, rules::specs::Refusal::shape_refusal))]
+#[inline(always)]
 pub fn test(shape: Shape, stripe: &[u8]) -> Result<Option<Failure>, Refusal>
     ensures { TestMeets shape stripe.now result }
 {

@@ -39,6 +39,6 @@ loop-u-preserved c =
     let here = (goal.at.loop-u-preserved c).In-loop-u in
     node-step z c.args.stripe.now c.loop-v.v c.loop-u.u _ _ _ c.loop-u.sums _ c.loop-v-test.true (place here) (digit here).is
     (c.point-p.ensures.inside (omega arith) (omega (arith, room z c.loop-v.v c.loop-v-test.true)))
-    (c.min-stop.ensures ∙ ap (min _) c.requires.stripe_len)
+    (c.lesser-stop.ensures.value ∙ ap (min _) c.requires.stripe_len)
     c.loop-u.invariant
     (node-shared c.add_node.result c.add_node.ensures (addable here))
