@@ -51,10 +51,15 @@ pub measure-accepts : (z : Sizes) → MeasuredIs (shape 16 3) (Ok z) → ⊥
 unfolding shape_refusal accepted rows groups group_size
 measure-accepts z p = some-ne-none 1 (sym (ap shape_refusal p) ∙ z.of_shape.taken)
 
--- one wrong number among the sizes, which the type rules out: l is 4
-pub measure_wrong_rows : AreSizes (shape 3 2) 1 2 3 2 → ⊥
+-- one wrong number among the sizes: l is 4
+pub measure_wrong_rows : (z : Sizes) → (z.l ≡ 4 → ⊥) → MeasuredIs (shape 3 2) (Ok z) → ⊥
 unfolding rows groups group_size
-measure_wrong_rows p = let e : ◌≡◌ {A = ℕ} 3 4 = p.l-is in omega arith
+measure_wrong_rows z wrong p = wrong (z.of_shape.l-is ∙ ap rows p)
+
+-- l = 3, which the type itself rules out
+pub sizes_wrong_rows : AreSizes (shape 3 2) 1 2 3 2 → ⊥
+unfolding rows groups group_size
+sizes_wrong_rows p = let e : ◌≡◌ {A = ℕ} 3 4 = p.l-is in omega arith
 
 -- nor are they the sizes of another shape
 pub measure_other_shape : (z : Sizes) → z.l ≡ 8 → MeasuredIs (shape 3 2) (Ok z) → ⊥
