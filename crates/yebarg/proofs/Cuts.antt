@@ -5,7 +5,7 @@
 use mathlib.Core.Path.{◌≡◌, sym, ap, ap₂, ◌∙◌}
 use mathlib.Core.List.{List}
 use mathlib.Core.Option.{none}
-use Prim.Native.Nat.{ℕ, ◌+◌, ◌-◌, ◌*◌, ◌/◌, ◌%◌, ◌≤◌, ◌<◌}
+use Prim.Native.Nat.{ℕ, ◌+◌, ◌-◌, ◌*◌, ◌/◌, ◌%◌, ◌^◌, ◌≤◌, ◌<◌}
 use native.Mathlib.Omega.{arith}
 use lib.ListN.{length, get_or}
 use lib.Seq.{ext_get_or}
@@ -13,11 +13,25 @@ use Rattle.rules.specs.declared.shapes.Shape.{Shape}
 use Rattle.rules.specs.declared.shapes.Sizes.{Sizes}
 use Rattle.rules.specs.Shape.{group_size, rows, group, place, worth}
 use Rattle.rules.specs.Fraction.{fraction_length, fraction}
-use Rattle.rules.specs.Promise.{WorthIs}
 use Rattle.rules.specs.Refusal.{shape_refusal}
 use Rattle.rules.proofs.Accepted.{Bounds, bounds}
-use Rattle.rules.proofs.RowsRead.{worth-some, group-most, fraction-worth, fraction-times, fraction-length, fraction-at}
+use Rattle.rules.proofs.RowsRead.{worth-some, worth-most, group-most, fraction-worth, fraction-times, fraction-length, fraction-at}
 use Rattle.yebarg.specs.Kernel.{row_at, Taken}
+
+-- what a 1 as the digit of a node's group counts, as the code works it out
+pub digit-counts : (sh : Shape) (s f : ℕ) → s ≡ group_size sh → s ^ ((f - 1) / s) ≡ worth sh (group sh f)
+unfolding group worth
+digit-counts sh s f base =
+    let group-is : (f - 1) / s + 1 ≡ group sh f = ap (λ s. (f - 1) / s + 1) base in
+    let power : (f - 1) / s ≡ group sh f - 1 = omega (arith, group-is) in
+    ap₂ (λ (x y : ℕ). x ^ y) base power
+
+-- and that is small
+pub digit-fits : (z : Sizes) (f : ℕ) → 1 ≤ f → f ≤ z.shape.n → z.s ^ ((f - 1) / z.s) ≤ 256
+digit-fits z f first last =
+    let b = bounds z.shape z.of_shape.taken in
+    let most = worth-most z.shape b (group z.shape f) (group-most z.shape b f first last) in
+    omega (arith, digit-counts z.shape z.s f z.of_shape.s-is, most, z.of_shape.l-is, z.of_shape.l-most)
 
 pub record Cutting (sh : Shape) (f s w n l : ℕ) : Type 0 where
   pub taken : shape_refusal sh ≡ none
@@ -33,19 +47,17 @@ pub record Cutting (sh : Shape) (f s w n l : ℕ) : Type 0 where
   pub whole : n * s ≡ l
   pub periods : n % w ≡ 0
 
-pub cutting : (sh : Shape) (z : Sizes) {f w n l : ℕ} → z.shape ≡ sh → 1 ≤ f → f ≤ z.shape.n → WorthIs sh ((f - 1) / z.s + 1) w
+pub cutting : (sh : Shape) (z : Sizes) {f w n l : ℕ} → z.shape ≡ sh → 1 ≤ f → f ≤ z.shape.n → w ≡ z.s ^ ((f - 1) / z.s)
     → n ≡ fraction_length z.shape
     → l ≡ z.l
     → Cutting sh f z.s w n l
-unfolding group place
+unfolding place
 cutting sh z {f} {w} {n} {l} same first last is part-is l-is =
     let taken : shape_refusal sh ≡ none = sym (ap shape_refusal same) ∙ z.of_shape.taken in
     let b = bounds sh taken in
     let last-is : f ≤ sh.n = omega (arith, ap (λ (x : Shape). x.n) same) in
     let base : z.s ≡ group_size sh = z.of_shape.s-is ∙ ap group_size same in
-    let group-is : (f - 1) / z.s + 1 ≡ group sh f = ap (λ s. (f - 1) / s + 1) base in
-    let counted : w ≡ worth sh (group sh f) =
-    is.inside taken (omega arith) (omega (arith, group-is, group-most sh b f first last-is)) ∙ ap (worth sh) group-is in
+    let counted : w ≡ worth sh (group sh f) = is ∙ digit-counts sh z.s f base in
     let part : n ≡ fraction_length sh = part-is ∙ ap fraction_length same in record {
       taken = taken;
       first = first;

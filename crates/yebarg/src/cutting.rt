@@ -3,7 +3,7 @@ ghost use Rattle.std.specs.Prelude.{◌≡◌, ◌≤◌, ◌<◌, ◌*◌, ◌%
 ghost use Rattle.yebarg.specs.Kernel.{Taken};
 ghost use Rattle.yebarg.specs.Promise.{CutMeets};
 
-use rules::{Refusal, Shape, check_len, measure, worth};
+use rules::{Refusal, Shape, check_len, measure};
 
 // What the helper gives to rebuild the failed node: its column's bytes at the rows with the failed node's digit, in rising row order.
 #[tactic(auto, unfolding(crate::specs::Refusal::cut_refusal, rules::specs::Refusal::shape_refusal))]
@@ -26,8 +26,9 @@ pub fn cut(
     if helper == failed {
         return Err(Refusal::BadNode);
     }
-    let v = (failed - 1) / z.s + 1;
-    take_rows(column, z.s, worth(shape, v), (failed - 1) % z.s, fraction);
+    // What a 1 as the digit of the failed node's group counts.
+    let w = z.s.pow(((failed - 1) / z.s) as u32);
+    take_rows(column, z.s, w, (failed - 1) % z.s, fraction);
     Ok(())
 }
 
