@@ -55,6 +55,14 @@ spaced-most x = rw spaced-is (go (ltb x 10) (ltb x 100))
     go false true = omega arith
     go false false = omega arith
 
+pub spaced-least : (x : ℕ) → 2 ≤ length (spaced x)
+spaced-least x = rw spaced-is (go (ltb x 10) (ltb x 100))
+  where
+    go : (a b : Bool) → 2 ≤ length (32 ∷ digits a b x)
+    go true b = omega arith
+    go false true = omega arith
+    go false false = omega arith
+
 -- of a number below 100, such as a node's
 pub spaced-short : (x : ℕ) → x < 100 → length (spaced x) ≤ 3
 spaced-short x h = rw (spaced-is, lt-ltb x 100 h) (go (ltb x 10))

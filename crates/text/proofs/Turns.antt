@@ -19,9 +19,9 @@ use Rattle.entries.specs.Pack.{nodes_of}
 use Rattle.entries.proofs.Sets.{nodes_to, nodes-all, nodes_start, nodes-take, nodes_skip, in_set, not_in_set}
 use Rattle.text.specs.Text.{spaced, spaced_all}
 
--- what is put on a page in two parts is put as one
-pub put_then : (page a b : List ℕ) {one two : List ℕ} → one ≡ page ++ a → two ≡ one ++ b → two ≡ page ++ (a ++ b)
-put_then page a b e f = f ∙ ap (λ (x : List ℕ). x ++ b) e ∙ append_assoc page a b
+-- what is put after a list in two parts is put as one
+pub page_then : (page a b : List ℕ) {one two : List ℕ} → one ≡ page ++ a → two ≡ one ++ b → two ≡ page ++ (a ++ b)
+page_then page a b e f = f ∙ ap (λ (x : List ℕ). x ++ b) e ∙ append_assoc page a b
 
 pub all-spaced : (list : List ℕ) → spaced_all list ≡ flat_map spaced list
 unfolding spaced_all

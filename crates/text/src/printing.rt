@@ -1,9 +1,11 @@
-// The text of an answer of the pack reader. `read_page` has a `requires` and can't be named from outside the crate.
-ghost use Rattle.std.specs.Prelude.{◌≡◌, ◌≤◌, IfOk, false};
+// The text of an answer of the pack reader. Of this module `push_read`, `push_contents`, `push_answer` and `put_answer` have a `requires`: none of these can be
+// named from outside the crate.
+ghost use Rattle.std.specs.Prelude.{◌≡◌, ◌≤◌, ◌++◌, length, drop, IfOk, false};
 ghost use Rattle.entries.specs.Pack.{nodes_of};
 ghost use Rattle.rules.specs.Lost.{lost_count, bit_above};
 ghost use Rattle.rules.specs.Refusal.{refusal_of};
-ghost use Rattle.text.specs.Text.{refused_line, read_text, contents_refusal, contents_text, printed};
+ghost use Rattle.text.specs.Text.{read_text, contents_refusal, contents_text, printed, longest_text};
+ghost use Rattle.text.specs.Kernel.{Room, Written};
 ghost use Rattle.text.specs.Promise.{PrintMeets};
 
 use crate::lines::{push_columns, push_lost, push_refused, push_shape};
@@ -26,29 +28,18 @@ fn lost_nodes(sizes: Sizes, lost: u16) -> ArrayVec<u8, 16>
     nodes
 }
 
-// The text of a refusal.
-#[tactic(auto, using(crate::proofs::Lengths::refused_most))]
-fn refused_page(q: u8) -> Page
-    ensures { result.bytes ≡ refused_line q }
-{
-    let mut page = Page::new();
-    push_refused(&mut page, q);
-    page
-}
-
 // The text of an accepted shape, and of a lost set that it can fill.
-#[tactic(auto, using(crate::proofs::Lengths::rooms), unfolding(crate::specs::Text::read_text, crate::specs::Text::lost_line))]
-fn read_page(sizes: Sizes, lost: u16, stripe: &[u8; LARGEST_STRIPE]) -> Page
+#[tactic(auto, using(crate::proofs::Puts::one_by_one), unfolding(crate::specs::Text::read_text, crate::specs::Text::lost_line))]
+fn push_read(page: &mut Page, sizes: Sizes, lost: u16, stripe: &[u8; LARGEST_STRIPE])
     requires inside { bit_above sizes.shape lost ≡ false }
     requires few { lost_count lost ≤ sizes.shape.r }
-    ensures { result.bytes ≡ read_text sizes.shape lost stripe.now }
+    requires room { Room page.old (read_text sizes.shape lost stripe.now) }
+    ensures { Written page.old (read_text sizes.shape lost stripe.now) page.new }
 {
     let nodes = lost_nodes(sizes, lost);
-    let mut page = Page::new();
-    push_shape(&mut page, sizes);
-    push_lost(&mut page, &nodes);
-    push_columns(&mut page, sizes, stripe, &nodes);
-    page
+    push_shape(page, sizes);
+    push_lost(page, &nodes);
+    push_columns(page, sizes, stripe, &nodes);
 }
 
 // The sizes of a shape and a lost set. Those that no reader answers are refused.
@@ -72,24 +63,38 @@ fn checked(contents: Contents) -> Result<Sizes, Refusal>
 }
 
 // The text of a shape and a lost set. Those that no reader answers are printed as the refusal that they call for.
-fn contents_page(contents: Contents, stripe: &[u8; LARGEST_STRIPE]) -> Page
-    ensures { result.bytes ≡ contents_text (contents_refusal contents) contents stripe.now }
+fn push_contents(page: &mut Page, contents: Contents, stripe: &[u8; LARGEST_STRIPE])
+    requires { Room page.old (contents_text (contents_refusal contents) contents stripe.now) }
+    ensures { Written page.old (contents_text (contents_refusal contents) contents stripe.now) page.new }
 {
     match checked(contents) {
-        Ok(sizes) => read_page(sizes, contents.lost, stripe),
-        Err(refusal) => refused_page(refusal.number()),
+        Ok(sizes) => push_read(page, sizes, contents.lost, stripe),
+        Err(refusal) => push_refused(page, refusal.number()),
     }
 }
 
 // The text of an answer.
 #[tactic(auto, unfolding(crate::specs::Text::printed))]
-fn page_of(answer: Result<Contents, u8>, stripe: &[u8; LARGEST_STRIPE]) -> Page
-    ensures { result.bytes ≡ printed answer stripe.now }
+fn push_answer(page: &mut Page, answer: Result<Contents, u8>, stripe: &[u8; LARGEST_STRIPE])
+    requires { Room page.old (printed answer stripe.now) }
+    ensures { Written page.old (printed answer stripe.now) page.new }
 {
     match answer {
-        Ok(contents) => contents_page(contents, stripe),
-        Err(number) => refused_page(number),
+        Ok(contents) => push_contents(page, contents, stripe),
+        Err(number) => push_refused(page, number),
     }
+}
+
+// Puts the text of an answer at the front of the bytes lent for it, and answers its length.
+#[tactic(auto, using(std::proofs::lemmas::Grind::common_steps, crate::proofs::Lengths::longest_text_lem))]
+fn put_answer(answer: Result<Contents, u8>, stripe: &[u8; LARGEST_STRIPE], text: &mut [u8]) -> usize
+    requires { length text.old ≡ longest_text }
+    ensures counted { result ≡ length (printed answer stripe.now) }
+    ensures front { text.new ≡ printed answer stripe.now ++ drop result text.old }
+{
+    let mut page = Page { text, len: 0 };
+    push_answer(&mut page, answer, stripe);
+    page.len
 }
 
 // Puts the text of an answer, which is a number where it is refused, and of the stripe that was written with it, at the front of the bytes lent for it, and
@@ -102,8 +107,6 @@ pub fn print(answer: Result<Contents, u8>, stripe: &[u8], text: &mut [u8]) -> Re
         return Err(Refusal::BadLength);
     };
     check_len(text, LONGEST_TEXT)?;
-    let page = page_of(answer, stripe);
-    let bytes = page.as_bytes();
-    text[..bytes.len()].copy_from_slice(bytes);
-    Ok(bytes.len())
+    let length = put_answer(answer, stripe, text);
+    Ok(length)
 }
