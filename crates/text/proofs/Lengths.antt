@@ -1,6 +1,5 @@
 -- How long the text is at most: every text of an answer fits into the bytes lent for it, and one of them fills them. In order: the lines;
--- the text; line by line, of sizes and a lost set that they can fill; every text; the length that is answered.
---   rooms == there is room for each line
+-- the text; every text; the length that is answered.
 use mathlib.Core.Path.{◌≡◌, refl, sym, ap, ap₂, subst, ◌∙◌}
 use mathlib.Core.List.{List, [], ◌∷◌, ◌++◌, flat_map}
 use mathlib.Core.Option.{Option, none, some}
@@ -11,11 +10,8 @@ use lib.Count.{ones, ones_in}
 use Rattle.std.specs.Prelude.{Result, Ok, Err}
 use lib.ListN.{length, take, drop, replicate, length-append, length-take}
 use lib.Seq.{take-append_seam}
-use mathlib.Core.Bool.{false}
-use Rattle.std.proofs.lemmas.Grind.{common_steps}
 use Rattle.rules.specs.declared.refusals.Refusal.{Refusal}
 use Rattle.rules.specs.declared.shapes.Shape.{Shape}
-use Rattle.rules.specs.declared.shapes.Sizes.{Sizes}
 use Rattle.rules.specs.Shape.{group_size, groups, rows, accepted}
 use Rattle.rules.specs.Stripe.{column, column_start}
 use Rattle.rules.specs.Rising.{rising, Listed}
@@ -111,24 +107,6 @@ read-most contents stripe taken =
       lost-most sh b lost few,
       columns-most sh b lost few stripe,
     )
-
--- line by line, of sizes and a lost set that they can fill
-pub shape_room : (z : Sizes) → length (shape_line z.shape) ≤ 15
-shape_room z = shape-most z.shape (bounds z.shape z.of_shape.taken)
-
-module _ (z : Sizes) (lost : ℕ) where
-  nodes_few : bit_above z.shape lost ≡ false → lost_count lost ≤ z.shape.r → length (nodes_of z.shape lost) ≤ 4
-  nodes_few inside few = omega (arith, held_count z.shape lost inside, z.of_shape.r-most)
-
-  pub lost_room : bit_above z.shape lost ≡ false → lost_count lost ≤ z.shape.r → length (line "lost" (spaced_or_none (nodes_of z.shape lost))) ≤ 17
-  unfolding lost_line
-  lost_room inside few = lost-most z.shape (bounds z.shape z.of_shape.taken) lost (nodes_few inside few)
-
-  pub columns_room : (stripe : List ℕ) → bit_above z.shape lost ≡ false → lost_count lost ≤ z.shape.r
-      → length (flat_map (column_line z.shape stripe) (nodes_of z.shape lost)) ≤ 4136
-  columns_room stripe inside few = columns-most z.shape (bounds z.shape z.of_shape.taken) lost (nodes_few inside few) stripe
-
-pub ruleset rooms = (common_steps, shape_room, lost_room, columns_room, listed_held)
 
 pub longest_text_lem : (answer : Result Contents ℕ) (stripe : List ℕ) → length (printed answer stripe) ≤ longest_text
 unfolding printed

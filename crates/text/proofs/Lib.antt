@@ -1,5 +1,5 @@
 -- Why printing keeps its promise.
---   Puts     == words put into a text one after another
+--   Puts     == words put into a text, and written on a page, one after another
 --   Turns    == the loops: the words of a list put in turn, the nodes of a set
 --   Digits   == a number in decimal
 --   Columns  == a node's bytes, as a part of the stripe

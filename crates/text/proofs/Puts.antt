@@ -10,7 +10,7 @@ use lib.ListN.{length, get_or, take, drop, length-append, length-drop, take-appe
 use lib.Seq.{length-take-le, take_at, drop-append-add, drop-drop}
 use Rattle.std.proofs.lemmas.Grind.{common_steps}
 use Rattle.text.specs.declared.pages.Page.{Page}
-use Rattle.text.specs.Kernel.{Fits, Put, Room, Written}
+use Rattle.text.specs.Kernel.{Fits, Put, RoomFor, WrittenOn}
 use Rattle.text.proofs.Turns.{turn_more, turn_room, in_turn}
 
 -- the first of two words that fit together fits
@@ -55,7 +55,7 @@ put_then {at} {between} {stop} x y {before} {mid} {later} h first second = recor
     fits : Fits at x before
     fits = fits-first at x y before h
 
-written_nothing : (page : Page) → Written page [] page
+written_nothing : (page : Page) → WrittenOn page [] page
 written_nothing page = record {
   same = refl;
   put =
@@ -67,7 +67,7 @@ written_nothing page = record {
       };
 }
 
-pub written_then : {page mid later : Page} (x y : List ℕ) → Room page (x ++ y) → Written page x mid → Written mid y later → Written page (x ++ y) later
+pub written_then : {page mid later : Page} (x y : List ℕ) → RoomFor page (x ++ y) → WrittenOn page x mid → WrittenOn mid y later → WrittenOn page (x ++ y) later
 written_then x y room first second = record {
   same = second.same ∙ first.same;
   put = put_then x y room first.put second.put;
@@ -76,30 +76,30 @@ written_then x y room first second = record {
 pub ruleset one_by_one = (common_steps, fits-first, fits-rest)
 
 -- a line has three parts: the second has room after the first, and all are written
-module _ {page one : Page} (x y z : List ℕ) (room : Room page (x ++ y ++ z)) (first : Written page x one) where
-  front-room : Room page (x ++ y)
+module _ {page one : Page} (x y z : List ℕ) (room : RoomFor page (x ++ y ++ z)) (first : WrittenOn page x one) where
+  front-room : RoomFor page (x ++ y)
   front-room = fits-first page.len (x ++ y) z page.text.now room
 
-  pub second_room : Room one y
+  pub second_room : RoomFor one y
   second_room = fits-rest x y front-room first.put
 
-  pub written_three : {two later : Page} → Written one y two → Written two z later → Written page (x ++ y ++ z) later
+  pub written_three : {two later : Page} → WrittenOn one y two → WrittenOn two z later → WrittenOn page (x ++ y ++ z) later
   written_three second third = written_then (x ++ y) z room (written_then x y front-room first second) third
 
 -- a list is written in turn
 module _ (f : ℕ → List ℕ) (list : List ℕ) {page : Page} where
-  pub none_written : Written page (flat_map f (take 0 list)) page
+  pub none_written : WrittenOn page (flat_map f (take 0 list)) page
   unfolding flat_map
   none_written = written_nothing page
 
-  module _ (i : ℕ) {mid : Page} (inside : i < length list) (room : Room page (flat_map f list)) (done : Written page (flat_map f (take i list)) mid) where
-    next-room : Room page (flat_map f (take i list) ++ f (get_or list i 0))
+  module _ (i : ℕ) {mid : Page} (inside : i < length list) (room : RoomFor page (flat_map f list)) (done : WrittenOn page (flat_map f (take i list)) mid) where
+    next-room : RoomFor page (flat_map f (take i list) ++ f (get_or list i 0))
     next-room = omega (arith, turn_room f list i inside, length-append (flat_map f (take i list)) (f (get_or list i 0)))
 
-    pub next_room : Room mid (f (get_or list i 0))
+    pub next_room : RoomFor mid (f (get_or list i 0))
     next_room = fits-rest (flat_map f (take i list)) (f (get_or list i 0)) next-room done.put
 
-    pub next_written : {later : Page} → Written mid (f (get_or list i 0)) later → Written page (flat_map f (take (i + 1) list)) later
+    pub next_written : {later : Page} → WrittenOn mid (f (get_or list i 0)) later → WrittenOn page (flat_map f (take (i + 1) list)) later
     next_written then = rw (turn_more f list i inside) (written_then (flat_map f (take i list)) (f (get_or list i 0)) next-room done then)
 
 pub ruleset written_in_turn = (in_turn, none_written, next_room)

@@ -1,4 +1,4 @@
--- Lists gone through in turn. In order: two parts; a list of numbers, spaced; the words of each entry after those before it, and that there is room for
+-- Lists gone through in turn. In order: a list of numbers, spaced; the words of each entry after those before it, and that there is room for
 -- them; an entry is listed; the nodes of a set.
 --   in_turn       == what a loop over a list is proved by
 --   nodes_in_turn == what a loop over the nodes of a set is proved by
@@ -11,17 +11,12 @@ use native.Mathlib.Omega.{arith}
 use lib.ListN.{length, get_or, take, drop, length-append, take-append-drop}
 use lib.Seq.{take-suc}
 use Rattle.std.proofs.lemmas.Grind.{common_steps}
-use Rattle.std.proofs.lemmas.List.{append_assoc}
 use Rattle.rules.specs.declared.shapes.Shape.{Shape}
 use Rattle.rules.specs.Rising.{Listed}
 use Rattle.rules.proofs.Pieces.{flat_none, flat_append, flat_more}
 use Rattle.entries.specs.Pack.{nodes_of}
 use Rattle.entries.proofs.Sets.{nodes_to, nodes-all, nodes_start, nodes-take, nodes_skip, in_set, not_in_set}
 use Rattle.text.specs.Text.{spaced, spaced_all}
-
--- what is put after a list in two parts is put as one
-pub page_then : (page a b : List ℕ) {one two : List ℕ} → one ≡ page ++ a → two ≡ one ++ b → two ≡ page ++ (a ++ b)
-page_then page a b e f = f ∙ ap (λ (x : List ℕ). x ++ b) e ∙ append_assoc page a b
 
 pub all-spaced : (list : List ℕ) → spaced_all list ≡ flat_map spaced list
 unfolding spaced_all

@@ -1,7 +1,7 @@
 // The page that a text is written on. Functions of this module have a `requires`; none can be named from outside the crate.
 ghost use Rattle.std.specs.Prelude.{◌≡◌, ◌<◌, length};
 ghost use Rattle.text.specs.Text.{spaced, spaced_all};
-ghost use Rattle.text.specs.Kernel.{Fits, Put, Room, Written};
+ghost use Rattle.text.specs.Kernel.{Fits, Put, RoomFor, WrittenOn};
 
 use columns::copy;
 use itoa::write_digits;
@@ -33,15 +33,15 @@ fn spaced_len(x: usize) -> usize
     ensures { result ≡ length (spaced x) }
 {
     if x < 10 {
-        return 2;
+        2
+    } else if x < 100 {
+        3
+    } else {
+        4
     }
-    if x < 100 {
-        return 3;
-    }
-    4
 }
 
-// Puts a space and a number below 1,000 in decimal so.
+// Puts a space and a number below 1,000 in decimal into a text from `at` on, and answers where they end.
 fn put_number(x: usize, at: usize, text: &mut [u8]) -> usize
     requires x_bound { x < 1000 }
     requires fits { Fits at (spaced x) text.old }
@@ -56,8 +56,8 @@ fn put_number(x: usize, at: usize, text: &mut [u8]) -> usize
 impl Page<'_> {
     // Writes words after what is written.
     pub fn push(&mut self, words: &[u8])
-        requires { Room self.old words.now }
-        ensures { Written self.old words.now self.new }
+        requires { RoomFor self.old words.now }
+        ensures { WrittenOn self.old words.now self.new }
     {
         self.len = put(words, self.len, self.text);
     }
@@ -65,8 +65,8 @@ impl Page<'_> {
     // A space and a number below 1,000 in decimal.
     pub fn push_number(&mut self, x: usize)
         requires x_bound { x < 1000 }
-        requires room { Room self.old (spaced x) }
-        ensures { Written self.old (spaced x) self.new }
+        requires room { RoomFor self.old (spaced x) }
+        ensures { WrittenOn self.old (spaced x) self.new }
     {
         self.len = put_number(x, self.len, self.text);
     }
@@ -74,8 +74,8 @@ impl Page<'_> {
     // Each byte of a list so.
     #[tactic(auto, using(crate::proofs::Puts::written_in_turn), unfolding(crate::specs::Text::spaced_all))]
     pub fn push_bytes(&mut self, list: &[u8])
-        requires { Room self.old (spaced_all list.now) }
-        ensures { Written self.old (spaced_all list.now) self.new }
+        requires { RoomFor self.old (spaced_all list.now) }
+        ensures { WrittenOn self.old (spaced_all list.now) self.new }
     {
         for &byte in list {
             self.push_number(usize::from(byte));

@@ -5,7 +5,7 @@ ghost use Rattle.entries.specs.Pack.{nodes_of};
 ghost use Rattle.rules.specs.Lost.{lost_count, bit_above};
 ghost use Rattle.rules.specs.Refusal.{refusal_of};
 ghost use Rattle.text.specs.Text.{read_text, contents_refusal, contents_text, printed, longest_text};
-ghost use Rattle.text.specs.Kernel.{Room, Written};
+ghost use Rattle.text.specs.Kernel.{RoomFor, WrittenOn};
 ghost use Rattle.text.specs.Promise.{PrintMeets};
 
 use crate::lines::{push_columns, push_lost, push_refused, push_shape};
@@ -33,8 +33,8 @@ fn lost_nodes(sizes: Sizes, lost: u16) -> ArrayVec<u8, 16>
 fn push_read(page: &mut Page, sizes: Sizes, lost: u16, stripe: &[u8; LARGEST_STRIPE])
     requires inside { bit_above sizes.shape lost ≡ false }
     requires few { lost_count lost ≤ sizes.shape.r }
-    requires room { Room page.old (read_text sizes.shape lost stripe.now) }
-    ensures { Written page.old (read_text sizes.shape lost stripe.now) page.new }
+    requires room { RoomFor page.old (read_text sizes.shape lost stripe.now) }
+    ensures { WrittenOn page.old (read_text sizes.shape lost stripe.now) page.new }
 {
     let nodes = lost_nodes(sizes, lost);
     push_shape(page, sizes);
@@ -64,8 +64,8 @@ fn checked(contents: Contents) -> Result<Sizes, Refusal>
 
 // The text of a shape and a lost set. Those that no reader answers are printed as the refusal that they call for.
 fn push_contents(page: &mut Page, contents: Contents, stripe: &[u8; LARGEST_STRIPE])
-    requires { Room page.old (contents_text (contents_refusal contents) contents stripe.now) }
-    ensures { Written page.old (contents_text (contents_refusal contents) contents stripe.now) page.new }
+    requires { RoomFor page.old (contents_text (contents_refusal contents) contents stripe.now) }
+    ensures { WrittenOn page.old (contents_text (contents_refusal contents) contents stripe.now) page.new }
 {
     match checked(contents) {
         Ok(sizes) => push_read(page, sizes, contents.lost, stripe),
@@ -76,8 +76,8 @@ fn push_contents(page: &mut Page, contents: Contents, stripe: &[u8; LARGEST_STRI
 // The text of an answer.
 #[tactic(auto, unfolding(crate::specs::Text::printed))]
 fn push_answer(page: &mut Page, answer: Result<Contents, u8>, stripe: &[u8; LARGEST_STRIPE])
-    requires { Room page.old (printed answer stripe.now) }
-    ensures { Written page.old (printed answer stripe.now) page.new }
+    requires { RoomFor page.old (printed answer stripe.now) }
+    ensures { WrittenOn page.old (printed answer stripe.now) page.new }
 {
     match answer {
         Ok(contents) => push_contents(page, contents, stripe),

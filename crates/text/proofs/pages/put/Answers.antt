@@ -1,20 +1,14 @@
 -- The part of the text that is lent comes back as the words.
-use mathlib.Core.Path.{◌≡◌, refl, sym, ap, ap₂, ◌∙◌}
-use mathlib.Core.List.{List, ◌++◌, append-nil, append_assoc}
+use mathlib.Core.Path.{refl, sym, ap, ◌∙◌}
+use mathlib.Core.List.{List, ◌++◌, append_assoc}
 use Prim.Native.Nat.{ℕ, ◌+◌, ◌-◌}
 use lib.ListN.{length, take, drop}
-use lib.Seq.{take-length, drop-length}
 use borrow.Rule.Slice.PartMut.{put_mid}
 use Rattle.columns.specs.Promise.{CopiedOver}
 use Rattle.columns.proofs.Parts.{part_length, put-parts}
+use Rattle.yebarg.proofs.Lists.{copied-whole}
 use Rattle.text.specs.Kernel.{Fits, Put}
 use Rattle.text.proofs.pages.put.Goals as goal
-
-copied-whole : (words before later : List ℕ) → length before ≡ length words → CopiedOver words before later → later ≡ words
-copied-whole words before later same copied =
-    copied.bytes
-    ∙ ap₂ (λ (x y : List ℕ). x ++ y) (ap (λ n. take n words) same ∙ take-length words) (ap (λ n. drop n before) (sym same) ∙ drop-length before)
-    ∙ append-nil words
 
 put-part : (at : ℕ) (words text part : List ℕ) → Fits at words text → CopiedOver words (take (at + length words - at) (drop at text)) part
     → Put at words text (put_mid at (at + length words - at) text part) (at + length words)
@@ -23,7 +17,7 @@ put-part at words text part fits copied = record {
   is =
       put-parts at (length words) text fits part
       ∙ ap (λ (l : List ℕ). take at text ++ (l ++ drop (at + length words) text))
-      (copied-whole words (take (at + length words - at) (drop at text)) part (part_length at (length words) text fits) copied)
+      (copied-whole (part_length at (length words) text fits) copied)
       ∙ sym (append_assoc (take at text) words (drop (at + length words) text));
 }
 
